@@ -1,0 +1,9 @@
+-- Document 01 as definitions, a module for each of its sections, in its order.
+pub mod Block
+pub mod Field
+pub mod Family
+pub mod Collecting
+pub mod Outcomes
+pub mod Air
+pub mod Sheet
+pub mod Listing

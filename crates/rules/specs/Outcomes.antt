@@ -1,0 +1,159 @@
+-- Numbered outcomes (document 01): each one's number, the order of testing, and what is left.
+-- That a given table meets the rules in its one stored form is tested first of all, where the table is stored (crate table).
+use Prim.Native.Nat.{ℕ, zero, suc, _+_, _-_, _/_, _%_}
+use mathlib.Core.Bool.{Bool, true, false, cond, _||_}
+use mathlib.Core.List.{List, [], _∷_, _++_, map}
+use mathlib.Core.Option.{Option, none, some}
+use lib.ListN.{length, getD, take, drop}
+use lib.Dec.{leb, ltb, eqb}
+use Rattle.rules.specs.declared.Outcome.{Outcome}
+use Rattle.rules.specs.declared.Outcome.the-variants.{Done, NotABlock, CheckFails, WrongFig, WrongField, WrongValue, EmptyStart, NotHeld, ShortBuffer, WrongTable, NotASheet, NotShown}
+use Rattle.rules.specs.declared.Note.{Note}
+use Rattle.rules.specs.declared.Note.the-variants.{Opened, ShownAndOpened, Added, NoOpenList, Full, TooLong, StateOnly, UnknownKey}
+use Rattle.rules.specs.Block.{Walk, whole, broken, Fig, figs, checkHolds}
+use Rattle.rules.specs.Field.{Field, isLinking, fieldsOf, wrongValue, emptyStart, Pair}
+use Rattle.rules.specs.Family.{steps, dropOpen, find, forget}
+use Rattle.rules.specs.Collecting.{linkage, IdSet, Held, Content, said}
+
+-- the number of an outcome in document 01
+unfoldable pub numberOf : Outcome → ℕ
+numberOf Done = 0
+numberOf NotABlock = 1
+numberOf CheckFails = 2
+numberOf WrongFig = 3
+numberOf WrongField = 4
+numberOf WrongValue = 5
+numberOf EmptyStart = 6
+numberOf NotHeld = 7
+numberOf ShortBuffer = 8
+numberOf WrongTable = 9
+numberOf NotASheet = 10
+numberOf NotShown = 11
+
+-- the number of a note, in the order in which document 01 names them
+unfoldable pub noteNumber : Note → ℕ
+noteNumber Opened = 1
+noteNumber ShownAndOpened = 2
+noteNumber Added = 3
+noteNumber NoOpenList = 4
+noteNumber Full = 5
+noteNumber TooLong = 6
+noteNumber StateOnly = 7
+noteNumber UnknownKey = 8
+
+-- ---- what is in a block: 1 to 6 in that order, each over the whole block before the next
+
+-- a block is taken, with its fields, or refused for what is in it; or it is no block
+pub data Verdict : Type 0 where
+  taken : List Field → Verdict
+  refused : Outcome → Verdict
+  noBlock : Verdict
+
+unfoldable pub joined : Walk Field → Walk Field → Walk Field
+joined (whole fs) (whole gs) = whole (fs ++ gs)
+joined (whole fs) (broken p) = broken p
+joined (broken p) rest = broken p
+
+-- the fields of all linking FIGs, in order; the other FIGs are stepped over
+unfoldable pub allFields : List Fig → Walk Field
+allFields [] = whole []
+allFields (fig ∷ rest) = cond (isLinking fig) (joined (fieldsOf fig) (allFields rest)) (allFields rest)
+
+unfoldable pub some? : (Field → Bool) → List Field → Bool
+some? p [] = false
+some? p (f ∷ fs) = p f || some? p fs
+
+-- 5, then 6
+unfoldable pub judgeFields : Walk Field → Verdict
+judgeFields (broken p) = refused WrongField
+judgeFields (whole fs) = cond (some? wrongValue fs) (refused WrongValue) (cond (some? emptyStart fs) (refused EmptyStart) (taken fs))
+
+-- 4, then those
+unfoldable pub judgeFigs : Walk Fig → Verdict
+judgeFigs (broken p) = refused WrongFig
+judgeFigs (whole gs) = judgeFields (allFields gs)
+
+-- 1, 2, 3, then those
+unfoldable pub verdict : List ℕ → Verdict
+verdict fib =
+    cond (eqb (length fib) 32)
+    (cond (checkHolds fib) (judgeFigs (figs fib)) (refused CheckFails))
+    noBlock
+
+-- ---- reading a block
+
+-- the answer to a block: its outcome, one note a field where it is taken, and what the table then holds
+pub record Answer : Type 0 where
+  pub outcome : Outcome
+  pub notes : List Note
+  pub left : Content
+
+-- a refused block leaves everything but the open lists; what is no block leaves them too
+unfoldable pub answerTo : Content → Verdict → Answer
+answerTo t (taken fs) =
+    let r = steps linkage t (map said fs) in
+    record { outcome = Done; notes = r .1; left = r .0 }
+answerTo t (refused o) = record { outcome = o; notes = []; left = dropOpen linkage t }
+answerTo t noBlock = record { outcome = NotABlock; notes = []; left = t }
+
+unfoldable pub readBlock : Content → List ℕ → Answer
+readBlock t fib = answerTo t (verdict fib)
+
+-- a whole recording: its whole blocks in order, in at most n of them; what is left over is no block
+unfoldable pub readBlocks : ℕ → Content → List ℕ → Content
+readBlocks zero t bytes = t
+readBlocks (suc n) t bytes = cond (ltb (length bytes) 32) t (readBlocks n (readBlock t (take 32 bytes) .left) (drop 32 bytes))
+
+unfoldable pub readRecording : Content → List ℕ → Content
+readRecording t bytes = readBlocks (length bytes / 32) t bytes
+
+unfoldable pub rest : List ℕ → ℕ
+rest bytes = length bytes % 32
+
+-- ---- forgetting, copying out: 7, 11, 8 in that order
+
+unfoldable pub heldOr : Option Held → Outcome → Outcome
+heldOr none o = NotHeld
+heldOr (some e) o = o
+
+unfoldable pub forgetOutcome : ℕ → Content → Outcome
+forgetOutcome k t = heldOr (find linkage k t) Done
+
+-- a set copied out: its key, on or off, named kinds and how many identifiers, with both buffers as they are then
+pub record Copied : Type 0 where
+  pub outcome : Outcome
+  pub key : ℕ
+  pub on : Bool
+  pub named : ℕ
+  pub count : ℕ
+  pub numbers : List ℕ
+  pub kinds : List ℕ
+
+unfoldable pub notCopied : Outcome → List ℕ → List ℕ → Copied
+notCopied o ns ks = record { outcome = o; key = 0; on = false; named = 0; count = 0; numbers = ns; kinds = ks }
+
+unfoldable pub numberIn : Pair → ℕ
+numberIn p = p .number
+
+unfoldable pub kindIn : Pair → ℕ
+kindIn p = p .kind
+
+-- later places stay as they were
+unfoldable pub overwritten : List ℕ → List ℕ → List ℕ
+overwritten new old = new ++ drop (length new) old
+
+unfoldable pub copySet : Held → Option IdSet → List ℕ → List ℕ → Copied
+copySet e none ns ks = notCopied NotShown ns ks
+copySet e (some l) ns ks =
+    cond (ltb (length ns) (length (l .items)) || ltb (length ks) (length (l .items)))
+    (notCopied ShortBuffer ns ks)
+    (record {
+      outcome = Done; key = e .key; on = e .state; named = l .named; count = length (l .items);
+      numbers = overwritten (map numberIn (l .items)) ns; kinds = overwritten (map kindIn (l .items)) ks })
+
+unfoldable pub copyHeld : Option Held → List ℕ → List ℕ → Copied
+copyHeld none ns ks = notCopied NotHeld ns ks
+copyHeld (some e) ns ks = copySet e (e .shown) ns ks
+
+unfoldable pub copyOut : ℕ → Content → List ℕ → List ℕ → Copied
+copyOut k t ns ks = copyHeld (find linkage k t) ns ks

@@ -1,0 +1,726 @@
+"""Scenes of replay scripts: what may happen to a table, each kind in a function of its own.
+
+A scene takes the script it adds to and, where it varies, a dice.  Outcomes
+that a scene can foretell from document 01 are foretold, so that making the
+vectors is itself a test.
+"""
+
+from making import (block, block_of, damaged, fig, fig_for, id_size, linking_fig, long, more, room, short, start,
+                    state, whole_list, with_check)
+from second.sheet import number_bytes
+
+DAB, RDS, DRM = 0, 1, 3
+FLAGS = [oe | pd | hard | ils for oe in (0, 0x8000) for pd in (0, 0x4000) for hard in (0, 0x2000)
+         for ils in (0, 0x1000)]
+EXAMPLE = block_of("08 06 E0 04 22 44 B1 44 B1")      # document 01, example 1
+
+
+# Random material
+
+
+def random_key(dice):
+    return dice.pick(FLAGS) | dice.between(1, 4095)
+
+
+def random_keys(dice, count, flags=None):
+    keys = set()
+    while len(keys) < count:
+        keys.add((dice.pick(FLAGS) if flags is None else flags) | dice.between(1, 4095))
+    return sorted(keys)
+
+
+def random_number(dice, key):
+    """Of the key's width: often small, so that numbers repeat, sometimes the largest."""
+    top = (1 << 8 * id_size(key)) - 1
+    if dice.chance(5):
+        return dice.pick([0, top, top - 1])
+    if dice.chance(40):
+        return dice.below(16)
+    return dice.word() & top
+
+
+def random_pairs(dice, key, length):
+    """Different pairs, the first DAB, kinds in runs, alternating or anyhow."""
+    kinds = [DAB] if key & 0x4000 else dice.pick([[DAB], [DAB, RDS], [DAB, DRM], [RDS], [DRM], [DAB, RDS, DRM]])
+    style = dice.below(3)
+    kind, pairs, seen = DAB, [], set()
+    while len(pairs) < length:
+        if pairs and (style == 0 or dice.chance(20)):
+            kind = dice.pick(kinds)
+        elif pairs and style == 1:
+            kind = kinds[len(pairs) % len(kinds)]
+        pair = (kind, random_number(dice, key))
+        if pair not in seen:
+            seen.add(pair)
+            pairs.append(pair)
+    return pairs
+
+
+def random_field(dice, key, continued, space):
+    """A good field of this key within the space, or None."""
+    size = id_size(key)
+    fewest = 0 if continued else 1
+    most = min(15, (space - 3) // size)
+    if most < fewest or dice.chance(25):
+        return short(key, dice.below(2)) if space >= 2 else None
+    qualifier = DAB if key & 0x4000 else dice.pick([DAB, DAB, RDS, DRM])
+    count = most if dice.chance(20) else dice.between(fewest, min(most, 4) if dice.chance(60) else most)
+    return long(key, dice.below(2), qualifier, [random_number(dice, key) for _ in range(count)])
+
+
+def random_linking_fig(dice, keys, space):
+    """A good linking FIG of at most `space` bytes for some of these keys."""
+    first = dice.pick(keys)
+    alike = [key for key in keys if key >> 14 == first >> 14]
+    continued = dice.below(2)
+    fields, left = [], space - 2
+    while left >= 2 and not (fields and dice.chance(45)):
+        field = random_field(dice, dice.pick(alike), continued, left)
+        fields.append(field)
+        left -= len(field)
+    if dice.chance(3):
+        fields = []
+    return fig_for(first, continued, *fields)
+
+
+def other_fig(dice, space):
+    """A FIG of at most `space` bytes that is to be stepped over."""
+    length = dice.between(1, space - 1)
+    body = bytearray(dice.below(256) for _ in range(length))
+    kind = dice.below(8)
+    if kind == 0 and body[0] & 31 == 6:
+        body[0] ^= 1
+    return fig(kind, bytes(body))
+
+
+def random_figs(dice, keys, space=30):
+    """Good FIGs of at most `space` bytes together."""
+    figs, left = [], space
+    while left >= 4 and not (figs and dice.chance(35)):
+        one = other_fig(dice, left) if dice.chance(12) else random_linking_fig(dice, keys, left)
+        figs.append(one)
+        left -= len(one)
+    return figs
+
+
+# Faults: small FIGs, each wrong in one way
+
+WRONG_FIELDS = [bytes.fromhex(text) for text in (       # outcome 4
+    "02 06 20", "02 86 E0", "02 26 00", "04 06 20 04 20", "03 06 A0 04", "03 86 F0 04", "04 26 B0 04 01",
+    "04 06 E0 04 01", "05 06 E0 04 01 44", "06 06 F0 04 01 44 B1", "07 26 E0 04 01 44 B1 00",
+    "07 06 E0 04 02 44 B1 00", "07 06 E0 04 01 44 B1 20", "06 86 A0 00 02 44 B1", "04 06 20 00 04",
+    "05 06 E0 04 00 36")]
+
+FORBIDDEN = [bytes.fromhex(text) for text in (          # outcome 5
+    # LSN 0: short form, start, continuation, beside a good field, with count 0
+    "03 06 20 00", "03 86 70 00", "03 46 00 00", "03 26 10 00", "06 06 A0 00 01 44 B1", "06 86 A0 00 01 44 B1",
+    "05 06 20 04 20 00", "04 06 E0 00 00",
+    # Rfu, shorthand
+    "06 06 E0 04 81 44 B1", "06 86 E0 04 A1 44 B1", "06 06 E0 04 11 44 B1", "06 86 E0 04 31 44 B1",
+    "04 06 E0 04 90", "04 86 E0 04 80", "04 86 E0 04 10",
+    # qualifier 2
+    "06 06 E0 04 41 44 B1", "06 86 E0 04 41 44 B1", "07 06 F0 04 41 E1 44 B1", "04 86 E0 04 40", "04 06 E0 04 40",
+    # P/D 1 with a qualifier not 0
+    "08 26 E0 04 21 00 00 44 B1", "08 26 E0 04 61 00 00 44 B1", "08 A6 E0 04 61 00 00 44 B1",
+    "08 66 F0 04 41 E0 12 43 B9", "04 A6 E0 04 20", "04 26 E0 04 60")]
+
+EMPTY_STARTS = [bytes.fromhex(text) for text in (       # outcome 6
+    "04 06 E0 04 00", "04 06 A0 04 20", "04 06 F0 04 60", "04 26 E0 04 00", "04 46 80 07 00",
+    "06 06 20 04 A0 05 00")]
+
+FAULTS = {4: WRONG_FIELDS, 5: FORBIDDEN, 6: EMPTY_STARTS}
+
+
+def wrong_length(dice, left):
+    """The beginning of a FIG that is wrong with `left` bytes left: length 0, or past the data."""
+    if dice.chance(50) or left > 30:
+        return bytes([dice.below(8) << 5])
+    length = dice.between(left, 31)
+    kind = dice.below(7)
+    body = dice.pick([b"\x06", b"\x01", b"\xff", b"\0"]) * (left - 1)
+    return bytes([kind << 5 | length]) + body
+
+
+def faulty_block(dice, keys, outcomes):
+    """A block with these outcomes' faults (2 to 6) in it, in any order, among good FIGs."""
+    figs = [dice.pick(FAULTS[outcome]) for outcome in outcomes if outcome in FAULTS]
+    left = 29 - sum(len(one) for one in figs)
+    if left >= 6 and dice.chance(60):
+        figs.append(random_linking_fig(dice, keys, left))
+    figs = dice.shuffled(figs)
+    if 3 in outcomes:
+        left = 30 - sum(len(one) for one in figs)
+        figs.append(wrong_length(dice, left))
+    whole = block(*figs)
+    return damaged(whole, dice.below(256)) if 2 in outcomes else whole
+
+
+# Scenes of reading
+
+
+def traffic(script, dice, keys, count):
+    """Good and refused blocks, forgettings and copies of some keys, as they come."""
+    for _ in range(count):
+        what = dice.below(100)
+        if what < 80:
+            script.block(block(*random_figs(dice, keys)), 0, small=dice.chance(10))
+        elif what < 84:
+            script.block(faulty_block(dice, keys, [dice.between(2, 6)]))
+        elif what < 86:
+            script.block(block(*random_figs(dice, keys))[:dice.below(32)], 1)
+        elif what < 90:
+            script.do("f %X" % dice.pick(keys))
+        elif what < 97:
+            script.do("c %X %d %d" % (dice.pick(keys), dice.below(20), dice.below(20)))
+        else:
+            script.show()
+    script.show()
+
+
+def block_lengths(script, dice):
+    """Every length from 0 to 64: only 32 is looked at, any other leaves the open lists."""
+    script.empty()
+    script.block(EXAMPLE, 0, [1])
+    for length in range(65):
+        data = (EXAMPLE + EXAMPLE)[:length] if dice.chance(50) else bytes(dice.below(256) for _ in range(length))
+        if length != 32:
+            script.block(data, 1)
+    script.show()
+    script.block(EXAMPLE, 0, [2])
+    script.show()
+
+
+def refilled(script):
+    """A table with a shown set and open lists, to see what a refusal drops."""
+    script.empty()
+    script.blocks([EXAMPLE, EXAMPLE, start(0x5007, 1, DAB, [1, 2])])
+
+
+def each_fault(script):
+    """Every single fault there is in the lists above, once."""
+    for outcome, figs in sorted(FAULTS.items()):
+        for one in figs:
+            refilled(script)
+            script.block(block(one), outcome)
+            script.show()
+            script.block(block(other_linking(), one), outcome)
+
+
+def other_linking():
+    """A good FIG to stand before a fault: its field must not work."""
+    return linking_fig(0, 0, 0, long(0x2099, 1, DAB, [7]))
+
+
+def wrong_lengths(script):
+    """Lengths of FIGs at the edges: outcome 3 or just right."""
+    for text in ("00", "20", "C0", "E0", "1E", "1F", "3E", "FE", "03 06 20 04 00", "03 06 20 04 1A 06",
+                 "03 06 20 04 FE", "1C 01" + " 00" * 27 + " 01", "1C 01" + " 00" * 27 + " 00"):
+        refilled(script)
+        script.block(with_check(bytes.fromhex(text).ljust(30, b"\0")), 3)
+        script.show()
+    for text in ("FF", "FF 00", "FF 06 20 00", "1D 01", "FD", "3D 06", "1C 01" + " 00" * 27 + " FF",
+                 "03 06 20 04 FF 00 00", "03 06 20 04 E1 06 FF", "01 06 FF", "01 86 01 46 01 26 FF"):
+        refilled(script)
+        script.block(with_check(bytes.fromhex(text).ljust(30, b"\0")), 0)
+        script.show()
+    refilled(script)
+    script.block(with_check(bytes.fromhex("1A 01").ljust(27, b"\0") + bytes.fromhex("02 06 20")), 4)
+    script.block(with_check(bytes.fromhex("1B 01").ljust(28, b"\0") + bytes.fromhex("01 06")), 0, [])
+    script.block(with_check(bytes.fromhex("19 01").ljust(26, b"\0") + bytes.fromhex("03 06 20 04")), 0, [7])
+
+
+def fault_order(script, dice, rounds):
+    """Several faults in one block: the lowest outcome is the answer, wherever its fault stands."""
+    keys = random_keys(dice, 5)
+    script.empty()
+    for _ in range(rounds):
+        outcomes = [outcome for outcome in (2, 3, 4, 5, 6) if dice.chance(45)]
+        if outcomes:
+            script.block(start(keys[0], dice.below(2), DAB, [dice.below(9)]), 0)
+            script.block(faulty_block(dice, keys, outcomes), outcomes[0])
+            if dice.chance(20):
+                script.show()
+
+
+def one_fig_two_faults(script):
+    """Two faults within one FIG or field."""
+    for text, outcome in (
+            ("04 06 20 00 04", 4), ("07 06 E0 04 00 20 00 36", 4), ("05 06 20 00 36 00", 5),
+            ("04 06 E0 04 40", 5), ("04 06 E0 04 80", 5), ("04 06 E0 00 00", 5), ("04 26 E0 04 20", 5),
+            ("06 06 E0 04 00 20 00", 5), ("06 06 20 00 E0 04 00".replace("06 06", "06 06"), 5),
+            ("04 06 E0 04 4F", 4), ("07 06 E0 04 00 E0 05 00", 6)):
+        refilled(script)
+        script.block(block_of(text), outcome)
+        script.show()
+
+
+def many_fields(script):
+    """Fourteen fields in one FIG; several FIGs and starts of one key in one block."""
+    refilled(script)
+    fields = [short(0x2004, place % 2) for place in range(14)]
+    script.block(block(linking_fig(1, 0, 0, *fields)), 0, [7] * 14)
+    script.block(block(linking_fig(0, 0, 0, *[short(0x2005 + place, 1) for place in range(14)])), 0, [8] * 14)
+    script.show()
+    one, two = long(0x2004, 1, RDS, [1]), long(0x2004, 0, DAB, [2])
+    script.block(block(linking_fig(0, 0, 0, one, two, one)), 0, [2, 2, 2])
+    script.show()
+    script.block(block(linking_fig(0, 0, 0, one), linking_fig(1, 0, 0, two), linking_fig(0, 0, 0, one)), 0, [2, 3, 2])
+    script.show()
+    script.block(block(linking_fig(1, 0, 0, one), linking_fig(1, 0, 0, two, short(0x2004, 1))), 0, [3, 3, 7])
+    script.show()
+    script.block(block(linking_fig(0, 0, 0)), 0, [])
+    script.block(block(*[linking_fig(0, 1, 1)] * 15), 0, [])
+
+
+def on_and_off(script):
+    """LA of every field of a held key counts, also where no list changes."""
+    script.empty()
+    key = 0x2004
+    script.block(start(key, 1, DAB, [1]), 0, [1])
+    script.block(more(key, 0, DAB, [2]), 0, [3])
+    script.show()
+    script.block(damaged(EXAMPLE), 2)
+    for continued in (0, 1):
+        for on in (0, 1):
+            script.block(state(key, on, continued), 0, [7])
+            script.show()
+    script.block(more(key, 0, DAB, [2]), 0, [4])
+    script.show()
+    script.block(start(key, 1, DAB, [1]), 0, [1])
+    script.show()
+
+
+def dead_links(script):
+    """Kinds named without identifiers, in starts and continuations, for each width that may have them."""
+    for key in (0x2004, 0x3004, 0x8004, 0x9004):
+        script.empty()
+        script.block(start(key, 1, RDS, [5]), 0, [1])
+        script.block(start(key, 1, DRM, [5]), 0, [2])
+        script.block(more(key, 1, RDS, []), 0, [3])
+        script.show()
+        script.block(start(key, 1, DAB, [5]), 0, [2])
+        script.block(more(key, 1, DAB, []), 0, [3])
+        script.block(more(key, 1, DRM, []), 0, [3])
+        script.block(more(key, 1, DRM, []), 0, [3])
+        script.block(start(key, 0, DAB, [5, 5, 6]), 0, [2])
+        script.show()
+        script.block(start(key, 0, RDS, [5, 5, 5, 5]), 0, [2])
+        script.block(more(key, 0, DRM, [5, 5]), 0, [3])
+        script.block(more(key, 0, DAB, [5, 6, 5]), 0, [3])
+        script.block(start(key, 1, DAB, [5]), 0, [2])
+        script.show()
+        script.do("c %X 5 5" % key)
+    script.empty()
+    script.block(start(0x6004, 1, DAB, [5]), 0, [1])
+    script.block(more(0x6004, 1, DAB, []), 0, [3])
+    script.block(more(0x6004, 1, RDS, []), 5)
+    script.show()
+
+
+def same_digits_other_key(script):
+    """Keys that differ in one flag alone are different sets."""
+    script.empty()
+    for flags in FLAGS:
+        script.block(start(flags | 4, 1, DAB, [0x44B1]), 0, [1])
+    for flags in FLAGS[::2]:
+        script.block(start(flags | 4, 0, DAB, [0x44B2]), 0, [2])
+    script.show()
+    for flags in FLAGS:
+        script.do("c %X 1 1" % (flags | 4))
+        script.expect("f %X" % (flags | 4), 0)
+
+
+def full_table(script, dice):
+    """32 keys held: a 33rd start is skipped until one is forgotten; what it says of on and off is lost."""
+    script.empty()
+    keys = dice.shuffled(random_keys(dice, 36))
+    held, late = keys[:32], keys[32:]
+    for key in held:
+        script.block(start(key, dice.below(2), DAB, [dice.below(99)]), 0, [1])
+    script.show()
+    for key in late:
+        script.block(start(key, 1, DAB, [1]), 0, [5])
+        script.block(more(key, 1, DAB, [1]), 0, [8])
+        script.block(state(key, 1), 0, [8])
+        script.expect("f %X" % key, 7)
+    script.block(start(held[3], 1, DAB, [7]), 0, [2])
+    script.block(damaged(EXAMPLE), 2)
+    script.show()
+    script.block(start(late[0], 1, DAB, [1]), 0, [5])
+    script.expect("c %X 256 256" % held[5], 11)
+    script.expect("c %X 256 256" % late[0], 7)
+    script.expect("f %X" % held[7], 0)
+    script.expect("f %X" % held[7], 7)
+    script.block(start(late[0], 1, DAB, [1]), 0, [1])
+    script.block(start(late[1], 1, DAB, [1]), 0, [5])
+    script.show()
+    for key in dice.shuffled(held)[:20]:
+        script.do("f %X" % key)
+    for key in late:
+        script.do("b %s" % start(key, 0, DAB, [3]).hex().upper())
+    script.show()
+
+
+def full_table_one_block(script):
+    """The last free place taken by a field of a block whose later fields then find none."""
+    script.empty()
+    for lsn in range(1, 32):
+        script.block(start(0x2000 + lsn, 1, DAB, [lsn]), 0, [1])
+    fields = [long(0x2000 + lsn, 1, DAB, [lsn]) for lsn in (40, 41, 3, 42, 40)]
+    script.block(block(linking_fig(0, 0, 0, *fields)), 0, [1, 5, 2, 5, 2])
+    script.show()
+    script.block(block(linking_fig(1, 0, 0, long(0x2029, 0, DAB, [1]), long(0x2028, 0, DAB, [1]), short(0x202A, 0),
+                                   long(0x2005, 0, RDS, []))), 0, [8, 3, 8, 3])
+    script.show()
+
+
+def long_list(script, key, kinds=(DAB,)):
+    """A list of 128: known pairs again are nothing, a 129th drops it whole."""
+    top = (1 << 8 * id_size(key)) - 1
+    pairs = [(kinds[place % len(kinds)], top - place) for place in range(128)]
+    pairs[0] = (DAB, top)
+    script.empty()
+    script.blocks(whole_list(key, 1, pairs[:127]))
+    known = [number for kind, number in pairs[-40:-1] if kind == pairs[127][0]][:room(key) - 1]
+    script.block(more(key, 1, pairs[127][0], known + [pairs[127][1]]), 0, [3])
+    script.block(more(key, 1, pairs[127][0], known), 0, [3])
+    script.block(more(key, 1, pairs[127][0], []), 0, [3])
+    script.show()
+    script.block(start(key, 0, DAB, [top]), 0, [2])
+    for size in (127, 128, 129, 256):
+        script.do("c %X %d %d" % (key, size, 256))
+        script.do("c %X %d %d" % (key, 256, size))
+    script.blocks(whole_list(key, 1, pairs))
+    script.block(more(key, 0, pairs[127][0], known[:2] + [3]), 0, [6])
+    script.show()
+    script.block(more(key, 1, DAB, [top]), 0, [4])
+    script.block(start(key, 1, DAB, [1, 2]), 0, [1])
+    script.block(start(key, 1, DAB, [1, 2]), 0, [2])
+    script.show()
+
+
+def edge_of_128(script):
+    """Fields that reach or pass 128 with repeated pairs in them."""
+    key = 0x2010
+    numbers = list(range(1000, 1127))
+    for field, note in (([1000, 1], 3), ([1, 1, 1, 1], 3), ([1, 1000, 2], 6), ([1, 2], 6), ([1126] * 12, 3)):
+        script.empty()
+        script.blocks(whole_list(key, 1, [(DAB, number) for number in numbers]))
+        script.block(more(key, 1, DAB, field), 0, [note])
+        script.block(start(key, 1, DAB, [1]), 0, [2 if note == 3 else 1])
+        script.do("c %X 128 128" % key)
+    script.empty()                  # the same number under another kind is another pair
+    script.blocks(whole_list(key, 1, [(DAB, number) for number in numbers]))
+    script.block(more(key, 1, RDS, [1000]), 0, [3])
+    script.block(more(key, 1, DRM, [1000]), 0, [6])
+    script.block(more(key, 1, DRM, [1000]), 0, [4])
+
+
+def copies(script, dice):
+    """Copying out what the table shows, with buffers long enough, exact and short, and keys it does not hold."""
+    for key, entry in list(script.table().items()):
+        text = ("%X" if dice.chance(70) else "%x") % key
+        if entry.shown is None:
+            script.expect("c %s %d %d" % (text, dice.below(257), dice.below(257)), 11)
+            continue
+        length = len(entry.shown.pairs)
+        script.expect("c %s %d %d" % (text, length, length), 0)
+        script.expect("c %s %d %d" % (text, length - 1, length), 8)
+        script.expect("c %s %d %d" % (text, length, length - 1), 8)
+        script.expect("c %s %d %d" % (text, min(256, length + dice.below(9)), min(256, length + dice.below(9))), 0)
+        script.expect("c %s 0 0" % text, 8)
+        script.expect("c 1%04X 256 256" % key, 7)
+    for key in ("0", "FFFFFFFF", "10000", "ffff0000", "1000", "00000000"):
+        script.expect("c %s 256 256" % key, 7)
+        script.expect("f %s" % key, 7)
+
+
+def forgettings(script, dice):
+    """Forgetting in the midst of collecting; other keys stay as they are."""
+    script.empty()
+    keys = random_keys(dice, 8)
+    for _ in range(3):
+        for key in keys:
+            for data in whole_list(key, dice.below(2), random_pairs(dice, key, dice.between(1, 9))):
+                script.block(data, 0)
+        gone = dice.pick(keys)
+        script.expect("f %X" % (gone | 0x10000), 7)
+        script.expect("f %X" % gone, 0)
+        script.show()
+        script.block(more(gone, 1, DAB, [1]), 0, [8])
+        script.block(start(gone, 1, DAB, [1]), 0, [1])
+    copies(script, dice)
+    for key in dice.shuffled(keys):
+        script.expect("f %X" % key, 0)
+    script.show()
+
+
+# Scenes of writing
+
+
+def written(script):
+    """Both writers with the exact length, one byte less, and more."""
+    for letter, length, most in (("a", script.air_length(), 140000), ("s", len(script.sheet()), 32768)):
+        script.expect("%s %d" % (letter, length), 0)
+        if length:
+            script.expect("%s %d" % (letter, length - 1), 8)
+            script.expect("%s 0" % letter, 8)
+        script.do("%s %d" % (letter, min(most, length + 33)))
+
+
+def read_back(script):
+    """What is written for air, read twice into an empty table; the sheet, loaded."""
+    output = bytes.fromhex(script.do("a 140000").split(" ")[2].replace("-", ""))
+    sheet = script.sheet()
+    script.show()
+    script.empty()
+    for _ in range(2):
+        for place in range(0, len(output), 32):
+            script.block(output[place:place + 32], 0)
+    assert script.sheet() == sheet
+    script.expect("s %d" % len(sheet), 0)
+    script.load(sheet, 0)
+    script.expect("s %d" % len(sheet), 0)
+    script.show()
+
+
+def random_sets(script, dice, count, longest):
+    """Some sets shown in a fresh table."""
+    script.empty()
+    for key in random_keys(dice, count):
+        pairs = random_pairs(dice, key, dice.pick([1, 1, 2, 3, dice.between(1, longest)]))
+        dead = [] if key & 0x4000 else [kind for kind in (RDS, DRM) if dice.chance(30)]
+        blocks = whole_list(key, dice.below(2), pairs, dead)
+        script.blocks(blocks + blocks[:1])
+
+
+def sheet_bytes(items):
+    """A sheet from numbers; bytes among them stand as they are."""
+    return b"".join(item if isinstance(item, bytes) else number_bytes(item) for item in items)
+
+
+ONE = [1, 0x2004, 1, 1, 2, 0, 0x44B1, 1, 0x44B1]     # document 01, example 15
+
+GOOD_SHEETS = [
+    [0], ONE, [1, 1, 0, 0, 1, 0, 0], [1, 0x8001, 1, 3, 1, 0, 0xFFFF],
+    [1, 0x2004, 0, 2, 1, 0, 127], [1, 0x2004, 0, 2, 2, 0, 128, 3, 128], [1, 0x2004, 0, 3, 2, 0, 16383, 1, 16384],
+    [1, 0x3004, 1, 3, 4, 0, (1 << 21) - 1, 0, 1 << 21, 1, (1 << 24) - 1, 3, 0],
+    [1, 0x4001, 1, 0, 3, 0, (1 << 28) - 1, 0, 1 << 28, 0, (1 << 32) - 1],
+    [1, 0x5001, 1, 0, 1, 0, (1 << 32) - 1], [1, 0xFFFF, 1, 0, 1, 0, 0],
+    [2, 0x2004, 1, 0, 1, 0, 5, 0x2005, 0, 3, 3, 0, 5, 1, 5, 3, 5],
+]
+
+BAD_SHEETS = [
+    [], [b"\x80"], [b"\xff" * 9], [1], [2] + ONE[1:], ONE + [0], ONE + [b"\x80"], ONE + ONE,          # lengths
+    [b"\x81\x00"] + ONE[1:], ONE[:2] + [b"\x81\x00"] + ONE[3:], ONE[:6] + [b"\xb1\x89\x81\x00"] + ONE[7:],
+    [b"\x80\x00"], [b"\x80\x80\x80\x80\x00"],                                                  # not the fewest bytes
+    [1, 0x4001, 1, 0, 1, 0, b"\xff\xff\xff\xff\x1f"], [1, 0x4001, 1, 0, 1, 0, b"\x80\x80\x80\x80\x10"],
+    [1, 0x4001, 1, 0, 1, 0, b"\x81\x80\x80\x80\x80\x00"], [1, 0x4001, 1, 0, 1, 0, b"\x81\x80\x80\x80\x80\x01"],
+    [b"\x81\x80\x80\x80\x10"] + ONE[1:], [1, b"\x84\xc0\x80\x80\x10"] + ONE[2:],                # 2^32 and above
+    [2, 0x2005, 1, 0, 1, 0, 5, 0x2004, 1, 0, 1, 0, 5], [2, 0x2004, 1, 0, 1, 0, 5, 0x2004, 1, 0, 1, 0, 5],
+    [2, 0x2004, 1, 0, 1, 0, 5, 0x2004, 0, 0, 1, 0, 6],                                              # order of keys
+    [1, 0, 1, 0, 1, 0, 5], [1, 0x2000, 1, 0, 1, 0, 5], [1, 0xF000, 1, 0, 1, 0, 5],                  # LSN 0
+    [1, 65536, 1, 0, 1, 0, 5], [1, 65537, 1, 0, 1, 0, 5], [1, 0x12004] + ONE[2:], [1, 0xFFFFFFFF] + ONE[2:],
+    ONE[:2] + [2] + ONE[3:], ONE[:2] + [128] + ONE[3:],                                             # on
+    ONE[:3] + [4] + ONE[4:], ONE[:3] + [5] + ONE[4:], ONE[:3] + [0] + ONE[4:], ONE[:3] + [2] + ONE[4:],
+    [1, 0x2004, 1, 1, 2, 0, 5, 3, 5], [1, 0x2004, 1, 3 + 128, 2, 0, 5, 3, 5],                       # named kinds
+    [1, 0x2004, 1, 0, 0], [1, 0x2004, 1, 1, 0], [1, 0x4004, 1, 0, 0],                               # no identifier
+    [1, 0x2004, 1, 0, 2, 0, 5, 2, 6], [1, 0x2004, 1, 3, 2, 0, 5, 2, 6], [1, 0x2004, 1, 3, 2, 0, 5, 4, 6],
+    [1, 0x2004, 1, 0, 1, 0, 65536], [1, 0x3004, 1, 0, 1, 0, 1 << 24], [1, 0xB004, 1, 3, 2, 0, 5, 3, 1 << 24],
+    [1, 0x2004, 1, 0, 2, 0, 5, 0, 5], [1, 0x2004, 1, 1, 3, 0, 5, 1, 5, 1, 5],                       # a pair twice
+    [1, 0x2004, 1, 1, 1, 1, 5], [1, 0x2004, 1, 3, 2, 3, 5, 0, 5], [1, 0xA004, 1, 1, 1, 1, 5],       # first not DAB
+    [1, 0x4004, 1, 1, 1, 0, 5], [1, 0x4004, 1, 2, 1, 0, 5], [1, 0x4004, 1, 1, 2, 0, 5, 1, 6],
+    [1, 0x4004, 1, 0, 2, 0, 5, 1, 6], [1, 0xC004, 1, 3, 2, 0, 5, 3, 6],                             # P/D 1
+    [1, 0x2004, 1, 1, 2, 0, 5], [1, 0x2004, 1, 1], [33], [200, 1, 0, 0, 1, 0, 5],
+]
+
+
+def many_sets(count):
+    """A sheet of this many small sets."""
+    return [count] + [item for lsn in range(1, count + 1) for item in (0x2000 + lsn, lsn % 2, 0, 1, 0, lsn)]
+
+
+def long_sheet(length, key=0x2004):
+    """A sheet of one set with this many identifiers."""
+    return [1, key, 1, 0, length] + [item for number in range(length) for item in (0, number)]
+
+
+def sheets(script):
+    """Sheets good and bad in every way."""
+    for items in GOOD_SHEETS + [many_sets(31), many_sets(32), long_sheet(127), long_sheet(128)]:
+        data = sheet_bytes(items)
+        script.load(data, 0)
+        assert script.sheet() == data
+        script.expect("s %d" % len(data), 0)
+        script.do("a 140000")
+        script.show()
+    for items in BAD_SHEETS + [many_sets(33), long_sheet(0), long_sheet(129)]:
+        script.blocks([EXAMPLE, EXAMPLE])
+        script.load(sheet_bytes(items), 10)
+        script.show()
+    for items in GOOD_SHEETS:
+        data = sheet_bytes(items)
+        for length in range(len(data)):
+            script.load(data[:length], 10)
+        script.load(data + b"\0", 10)
+
+
+def changed_sheets(script, dice, rounds):
+    """Good sheets with a byte changed, gone or put in."""
+    for _ in range(rounds):
+        data = bytearray(sheet_bytes(dice.pick(GOOD_SHEETS)))
+        place = dice.below(len(data))
+        what = dice.below(4)
+        if what == 0:
+            data[place] = dice.below(256)
+        elif what == 1:
+            data[place] ^= 1 << dice.below(8)
+        elif what == 2:
+            del data[place]
+        else:
+            data.insert(place, dice.pick([0, 1, 128, dice.below(256)]))
+        if script.do(("l " + data.hex().upper()).strip()) == "l 0":
+            assert script.sheet() == data
+            script.do("s 100")
+
+
+# Scenes of spoiling
+
+
+def mixed_table(script):
+    """A table that can be spoiled in every way."""
+    script.empty()
+    for data in ([start(0x2001, 1, DAB, [9])] + whole_list(0x2004, 1, [(DAB, 5), (RDS, 5), (DRM, 6)])
+                 + whole_list(0x3004, 0, [(DAB, 5), (DAB, 6)]) + whole_list(0x4004, 1, [(DAB, 5), (DAB, 6)])):
+        script.block(data, 0)
+    script.blocks([start(0x2004, 1, RDS, [7]), start(0x3004, 0, DAB, [7, 8]), start(0x4004, 1, DAB, [7])])
+
+
+def table_commands(script):
+    """Every command that takes a table, to meet outcome 9 on a spoiled one."""
+    for data in (EXAMPLE, damaged(EXAMPLE), EXAMPLE[:31], b"", block_of("00")):
+        script.block(data, 9)
+    for command in ("f 2004", "f 0", "f FFFFFFFF", "c 2004 256 256", "c 2004 0 0", "c 2001 0 9", "c 9999 0 0",
+                    "a 140000", "a 0", "s 32768", "s 0", "t"):
+        script.expect(command, 9)
+
+
+def each_spoiling(script):
+    """Each way on a table where it applies, with every command after it."""
+    for way in range(1, 17):
+        mixed_table(script)
+        assert script.do("x %d" % way) == "x", way
+        table_commands(script)
+        script.do("u")
+        script.show()
+        script.do("x %d" % way)
+        script.load(sheet_bytes(ONE), 0)
+        script.show()
+        script.do("u")
+        script.show()
+        script.do("x %d" % way)
+        script.load(b"", 10)
+        script.show()
+        script.do("u")
+        script.do("x %d" % way)
+        script.empty()
+        script.show()
+        script.do("u")
+        script.do("u")
+        script.block(start(0x2004, 1, RDS, [7]), 0, [2])
+        script.show()
+        script.do("u")
+        script.show()
+
+
+def not_to_be_spoiled(script):
+    """Tables that have nothing to spoil in some ways."""
+    for prepare, ways in (
+            (lambda: None, [1, 3, 4, 5, 7, 8, 9, 10, 11, 12, 13, 14, 15, 16]),
+            (lambda: script.block(EXAMPLE, 0), [1, 3, 7, 8, 9, 10, 11, 12, 13, 14, 15]),
+            (lambda: script.block(start(0x2001, 1, DAB, [1]), 0), [1, 3, 7, 16]),
+            (lambda: script.load(sheet_bytes(many_sets(32)), 0), [6, 9, 13, 15, 16]),
+            (lambda: script.load(sheet_bytes(long_sheet(128)), 0), [1, 3, 8, 13, 15, 16]),
+            (lambda: script.load(sheet_bytes(long_sheet(128, 0x4004)), 0), [1, 3, 8, 11, 13, 16]),
+            (lambda: script.load(sheet_bytes([1, 0x4004, 1, 0, 1, 0, 5]), 0), [1, 3, 9, 11, 13, 16]),
+            (lambda: script.load(sheet_bytes([1, 0x2004, 1, 3, 1, 0, 5]), 0), [9, 13, 15, 16])):
+        for way in range(1, 17):
+            script.empty()
+            prepare()
+            refused = way in ways
+            answer = script.do("x %d" % way)
+            assert answer == ("x ?" if refused else "x") or way not in ways, (way, answer)
+            script.show()
+            script.do("u")
+            script.show()
+
+
+def spoiled_again(script, dice, rounds):
+    """Spoiling in the midst of other things, also a table that is spoiled already."""
+    keys = random_keys(dice, 4)
+    script.empty()
+    for _ in range(rounds):
+        what = dice.below(10)
+        if what < 3:
+            script.do("x %d" % dice.between(1, 16))
+        elif what < 5:
+            script.do("u")
+        elif what < 8:
+            script.block(block(*random_figs(dice, keys)))
+        elif what < 9:
+            script.show()
+        else:
+            script.do(dice.pick(["a 4096", "s 999", "f 2004", "c 2004 9 9", "e"]))
+
+
+# Lines that are no command
+
+
+def grammar(script):
+    """Lines answered `?`, lines just within the grammar, and empty lines."""
+    script.empty()
+    script.blocks([EXAMPLE, EXAMPLE])
+    hex64, hex65 = "00" * 64, "00" * 65
+    for text in ("f 2004x", "f", "f ", "f 000002004", "f -1", "f 0x4", "f 2004 ", " f 2004", "f  2004", "f 2004 1", "F 2004",
+                 "c 2004", "c 2004 2", "c 2004 257 2", "c 2004 2 257", "c 2004 2 2 2", "c 2004 +2 2", "c 2004 2  2",
+                 "c 2004 00000000002 2", "c 2004 2 4294967297", "c g 2 2", "c 2004 a 2", "a", "a ", "a 140001",
+                 "a 00000000064", "a 9999999999", "a 1F", "a 64 1", "a -", "s", "s 32769", "s 1_0", "s 1.0", "s 1 ",
+                 "b 0", "b 0G", "b 00 00", "b  00", "b ", "b " + hex65, "b" + EXAMPLE.hex(), "b 000",
+                 "l 0", "l 00 00", "l ", "l 0Z", "l00", "L 00", "e ", " e", "E", "e e", "ee", "t 1", "T", "t ", "x", "x ",
+                 "x 0", "x 17", "x 00000000001", "x -1", "x 1 ", "x ?", "x A", "u 1", "U", "?", "#", "# e", "q", "e\tt",
+                 "e\r", "b\r", "\r", " ", "\t", "t\0", "\0", "e\x0b", "e\x0c", "e\x1c", "e\x85", "f \xb2", "\xe9",
+                 "x \xb9"):
+        assert script.raw(text.encode("latin-1")) == ["?"], text
+        script.seen["?"] += 1
+    assert script.raw("f ٢".encode("utf-8")) == ["?"]
+    for _ in range(2):
+        assert script.raw(b"") == []
+    for text in ("c 2004 0000000002 002", "c 2004 2 0000000256", "c 00002004 256 2", "a 0000000032", "a 140000", "s 32768",
+                 "s 014", "f 12004", "f 00000000", "f fFfFfFfF", "b", "b " + hex64, "b " + EXAMPLE.hex(),
+                 "l 018440010102 00b18901 01B18901".replace(" ", "").replace("l", "l "), "s 14", "l", "t",
+                 "x 0000000002", "t", "u", "t"):
+        script.do(text)
+
+
+# Large things
+
+
+def largest_sheet():
+    """24,801 bytes: 32 keys with P/D 1, 128 identifiers of 2^28 or more each."""
+    items = [32]
+    for place in range(32):
+        items += [0x4000 + 0x1000 * (place % 2) + 0x200 * (place // 2) + 0x100, 1, 0, 128]
+        items[-4] = 0x4100 + 8 * place
+        for number in range(128):
+            items += [0, (1 << 28) + (place << 20) + number * 0x1FFF]
+    return sheet_bytes(items)
+
+
+def most_pieces(flags):
+    """A sheet of 32 sets that need 128 pieces each: DAB and RDS by turns, DRM named and absent."""
+    items = [32]
+    for place in range(32):
+        items += [flags + 1 + place, place % 2, 3, 128]
+        for number in range(128):
+            items += [number % 2, 0x40B1 + 0x101 * (number // 2)]
+    return sheet_bytes(items)

@@ -1,0 +1,98 @@
+"""A replay script in the making: each command is executed at once and what it met is counted."""
+
+from collections import Counter
+
+from second import stored
+from second.air import blocks_of
+from second.replay import Replay
+from second.sheet import sheet_of
+from second.table import shown_sets
+
+
+class Script:
+    """Command lines with their answers; `commands` are the letters that may appear."""
+
+    def __init__(self, commands="ebfcaslxtu"):
+        self.commands = commands
+        self.replay = Replay()
+        self.lines = []
+        self.answers = []
+        self.seen = Counter()
+
+    # Commands
+
+    def raw(self, line):
+        """One line of bytes as it stands; answers the answer lines."""
+        answers = self.replay.answer(line)
+        self.lines.append(line)
+        self.answers += answers
+        self.seen["commands"] += 1
+        return answers
+
+    def do(self, text):
+        """A well-formed command; answers its first answer line."""
+        assert text[0] in self.commands, text
+        answer = self.raw(text.encode("ascii"))[0]
+        self.count(text, answer)
+        return answer
+
+    def count(self, text, answer):
+        words = answer.split(" ")
+        letter, outcome = words[0], words[1] if len(words) > 1 else ""
+        if letter == "x":
+            self.seen["x %s %s" % (text.split(" ")[1], outcome or "done")] += 1
+        elif letter == "t":
+            self.seen["t 9" if answer == "t 9" else "t"] += 1
+        else:
+            self.seen[(letter + " " + outcome).strip()] += 1
+        if letter == "b" and outcome == "0":
+            self.seen.update("note " + note for note in words[2:])
+
+    def empty(self):
+        self.do("e")
+
+    def show(self):
+        self.do("t")
+
+    def block(self, data, expected=None, notes=None, small=False):
+        """Reads a block; the outcome and the notes may be foretold."""
+        digits = data.hex() if small else data.hex().upper()
+        answer = self.do(("b " + digits).strip())
+        words = answer.split(" ")
+        assert expected is None or words[1] == str(expected), (answer, expected, digits)
+        assert notes is None or words[2:] == [str(note) for note in notes], (answer, notes, digits)
+        return int(words[1])
+
+    def blocks(self, many):
+        for data in many:
+            self.block(data, 0)
+
+    def expect(self, text, outcome):
+        """A command whose outcome is foretold."""
+        answer = self.do(text)
+        assert answer.split(" ")[1] == str(outcome), (text, answer, outcome)
+
+    def load(self, data, outcome):
+        self.expect(("l " + data.hex().upper()).strip(), outcome)
+
+    # The present table
+
+    def table(self):
+        return stored.fetch(self.replay.stored)
+
+    def shown(self):
+        return shown_sets(self.table())
+
+    def air_length(self):
+        return 32 * len(blocks_of(self.shown()))
+
+    def sheet(self):
+        return sheet_of(self.shown())
+
+    # Writing the files
+
+    def input_bytes(self):
+        return b"".join(line + b"\n" for line in self.lines)
+
+    def output_bytes(self):
+        return "".join(line + "\n" for line in self.answers).encode("ascii")

@@ -1,0 +1,11 @@
+"""The second program: the rules of document 01 once more, in plain Python.
+
+It was written from document 01 and not from the proved program, so that the
+two can be held against each other.  Read the modules in this order, each
+beside its section of document 01:
+
+    block.py    The block              field.py    The linking field
+    table.py    Collecting             stored.py   Table rules, stored form
+    air.py      Writing for air        sheet.py    The stored sheet
+    listing.py  Examples, 16           replay.py, spoil.py   the test scripts
+"""
