@@ -99,16 +99,17 @@ answerTo t noBlock = record { outcome = NotABlock; notes = []; left = t }
 unfoldable pub readBlock : Content → List ℕ → Answer
 readBlock t fib = answerTo t (verdict fib)
 
--- a whole recording: its whole blocks in order, in at most n of them; what is left over is no block
+-- the first n blocks of a recording, in order
 unfoldable pub readBlocks : ℕ → Content → List ℕ → Content
 readBlocks zero t bytes = t
-readBlocks (suc n) t bytes = cond (ltb (length bytes) 32) t (readBlocks n (readBlock t (take 32 bytes) .left) (drop 32 bytes))
+readBlocks (suc n) t bytes = readBlocks n (readBlock t (take 32 bytes) .left) (drop 32 bytes)
 
+-- a recording: its whole blocks; the bytes left over are no block
 unfoldable pub readRecording : Content → List ℕ → Content
 readRecording t bytes = readBlocks (length bytes / 32) t bytes
 
-unfoldable pub rest : List ℕ → ℕ
-rest bytes = length bytes % 32
+unfoldable pub leftOver : List ℕ → ℕ
+leftOver bytes = length bytes % 32
 
 -- ---- forgetting, copying out: 7, 11, 8 in that order
 

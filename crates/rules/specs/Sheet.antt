@@ -51,7 +51,8 @@ alone s = record { key = s .key; state = s .on; shown = some (s .set); draft = n
 unfoldable pub justShown : Content → Content
 justShown t = map alone (shownSets t)
 
--- a sheet is accepted exactly if some table writes it, and gives that table's sets; else 10 and the empty table
-pub data Load (bytes : List ℕ) : Outcome → Content → Type 0 where
-  accepted : (t : Content) → meets t ≡ true → sheet t ≡ bytes → Load bytes Done (justShown t)
-  notASheet : ((t : Content) → meets t ≡ true → sheet t ≡ bytes → ⊥) → Load bytes NotASheet []
+-- what loading answers and leaves: a sheet is accepted exactly if some table writes it, and gives that table's sets; else
+-- 10 and the empty table
+pub data Load (bytes : List ℕ) (outcome : Outcome) (left : Content) : Type 0 where
+  accepted : (t : Content) → meets t ≡ true → sheet t ≡ bytes → outcome ≡ Done → left ≡ justShown t → Load bytes outcome left
+  notASheet : ((t : Content) → meets t ≡ true → sheet t ≡ bytes → ⊥) → outcome ≡ NotASheet → left ≡ [] → Load bytes outcome left
