@@ -14,14 +14,10 @@ FLAGS = [oe | pd | hard | ils for oe in (0, 0x8000) for pd in (0, 0x4000) for ha
 # Random material
 
 
-def random_key(dice):
-    return dice.pick(FLAGS) | dice.between(1, 4095)
-
-
-def random_keys(dice, count, flags=None):
+def random_keys(dice, count):
     keys = set()
     while len(keys) < count:
-        keys.add((dice.pick(FLAGS) if flags is None else flags) | dice.between(1, 4095))
+        keys.add(dice.pick(FLAGS) | dice.between(1, 4095))
     return sorted(keys)
 
 
@@ -129,7 +125,7 @@ FAULTS = {4: WRONG_FIELDS, 5: FORBIDDEN, 6: EMPTY_STARTS}
 
 def wrong_length(dice, left):
     """The beginning of a FIG that is wrong with `left` bytes left: length 0, or past the data."""
-    if dice.chance(50) or left > 30:
+    if dice.chance(50):
         return bytes([dice.below(8) << 5])
     length = dice.between(left, 31)
     kind = dice.below(7)
@@ -209,17 +205,16 @@ def largest_sheet():
     """24,801 bytes: 32 keys with P/D 1, 128 identifiers of 2^28 or more each."""
     items = [32]
     for place in range(32):
-        items += [0x4000 + 0x1000 * (place % 2) + 0x200 * (place // 2) + 0x100, 1, 0, 128]
-        items[-4] = 0x4100 + 8 * place
+        items += [0x4100 + 0x123 * place, place % 2, 0, 128]
         for number in range(128):
-            items += [0, (1 << 28) + (place << 20) + number * 0x1FFF]
+            items += [0, (1 << 28) + (place << 20) + 0x1FFF * number]
     return sheet_bytes(items)
 
 
-def most_pieces(flags):
-    """A sheet of 32 sets that need 128 pieces each: DAB and RDS by turns, DRM named and absent."""
-    items = [32]
-    for place in range(32):
+def most_pieces(flags, count=32):
+    """A sheet of sets that need 128 pieces each: DAB and RDS by turns, DRM named and absent."""
+    items = [count]
+    for place in range(count):
         items += [flags + 1 + place, place % 2, 3, 128]
         for number in range(128):
             items += [number % 2, 0x40B1 + 0x101 * (number // 2)]

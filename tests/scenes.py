@@ -8,7 +8,7 @@ is itself a test.
 from making import (block, block_of, damaged, id_size, linking_fig, long, more, room, short, start, state,
                     whole_list, with_check)
 from material import (BAD_SHEETS, DAB, DRM, FAULTS, FLAGS, GOOD_SHEETS, ONE, RDS, faulty_block, long_sheet, many_sets,
-                      random_figs, random_keys, random_pairs, sheet_bytes)
+                      most_pieces, random_figs, random_keys, random_pairs, sheet_bytes)
 
 EXAMPLE = block_of("08 06 E0 04 22 44 B1 44 B1")      # document 01, example 1
 
@@ -23,7 +23,8 @@ def traffic(script, dice, keys, count):
         if what < 80:
             script.block(block(*random_figs(dice, keys)), 0, small=dice.chance(10))
         elif what < 84:
-            script.block(faulty_block(dice, keys, [dice.between(2, 6)]))
+            outcome = dice.between(2, 6)
+            script.block(faulty_block(dice, keys, [outcome]), outcome)
         elif what < 86:
             script.block(block(*random_figs(dice, keys))[:dice.below(32)], 1)
         elif what < 90:
@@ -55,18 +56,14 @@ def refilled(script):
 
 
 def each_fault(script):
-    """Every single fault there is in the lists above, once."""
+    """Every fault that material.py has, by itself and after a good FIG."""
     for outcome, figs in sorted(FAULTS.items()):
         for one in figs:
             refilled(script)
             script.block(block(one), outcome)
             script.show()
-            script.block(block(other_linking(), one), outcome)
-
-
-def other_linking():
-    """A good FIG to stand before a fault: its field must not work."""
-    return linking_fig(0, 0, 0, long(0x2099, 1, DAB, [7]))
+            script.block(block(linking_fig(0, 0, 0, long(0x2099, 1, DAB, [7])), one), outcome)
+            script.show()               # the good FIG before the fault must not have worked
 
 
 def wrong_lengths(script):
@@ -105,7 +102,7 @@ def one_fig_two_faults(script):
     for text, outcome in (
             ("04 06 20 00 04", 4), ("07 06 E0 04 00 20 00 36", 4), ("05 06 20 00 36 00", 5),
             ("04 06 E0 04 40", 5), ("04 06 E0 04 80", 5), ("04 06 E0 00 00", 5), ("04 26 E0 04 20", 5),
-            ("06 06 E0 04 00 20 00", 5), ("06 06 20 00 E0 04 00".replace("06 06", "06 06"), 5),
+            ("06 06 E0 04 00 20 00", 5), ("06 06 20 00 E0 04 00", 5),
             ("04 06 E0 04 4F", 4), ("07 06 E0 04 00 E0 05 00", 6)):
         refilled(script)
         script.block(block_of(text), outcome)
@@ -372,6 +369,15 @@ def sheets(script):
         script.load(data + b"\0", 10)
 
 
+def longest_sets(script):
+    """Sets that need 128 pieces: 4,096 bytes and not one less."""
+    for flags in (0x2000, 0x9000):
+        script.load(most_pieces(flags, 1), 0)
+        assert script.air_length() == 4096
+        script.expect("a 4095", 8)
+        script.expect("a 4096", 0)
+
+
 def changed_sheets(script, dice, rounds):
     """Good sheets with a byte changed, gone or put in."""
     for _ in range(rounds):
@@ -441,25 +447,49 @@ def each_spoiling(script):
 
 
 def not_to_be_spoiled(script):
-    """Tables that have nothing to spoil in some ways."""
-    for prepare, ways in (
-            (lambda: None, [1, 3, 4, 5, 7, 8, 9, 10, 11, 12, 13, 14, 15, 16]),
-            (lambda: script.block(EXAMPLE, 0), [1, 3, 7, 8, 9, 10, 11, 12, 13, 14, 15]),
-            (lambda: script.block(start(0x2001, 1, DAB, [1]), 0), [1, 3, 7, 16]),
+    """Tables that have nothing to spoil in some ways, and which ways those are."""
+    no_shown = [7, 8, 9, 10, 11, 12, 13, 14, 15]
+    for prepare, refused in (
+            (script.empty, [1, 3, 4, 5, 16] + no_shown),
+            (lambda: script.block(EXAMPLE, 0), [1, 3] + no_shown),
+            (lambda: script.block(start(0x2001, 1, DAB, [1]), 0), [1, 3, 16] + no_shown),
             (lambda: script.load(sheet_bytes(many_sets(32)), 0), [6, 9, 13, 15, 16]),
             (lambda: script.load(sheet_bytes(long_sheet(128)), 0), [1, 3, 8, 13, 15, 16]),
             (lambda: script.load(sheet_bytes(long_sheet(128, 0x4004)), 0), [1, 3, 8, 11, 13, 16]),
             (lambda: script.load(sheet_bytes([1, 0x4004, 1, 0, 1, 0, 5]), 0), [1, 3, 9, 11, 13, 16]),
-            (lambda: script.load(sheet_bytes([1, 0x2004, 1, 3, 1, 0, 5]), 0), [9, 13, 15, 16])):
+            (lambda: script.load(sheet_bytes([1, 0x2004, 1, 3, 1, 0, 5]), 0), [1, 3, 9, 13, 15, 16])):
+        script.empty()
+        prepare()
         for way in range(1, 17):
-            script.empty()
-            prepare()
-            refused = way in ways
             answer = script.do("x %d" % way)
-            assert answer == ("x ?" if refused else "x") or way not in ways, (way, answer)
-            script.show()
-            script.do("u")
-            script.show()
+            assert answer == ("x ?" if way in refused else "x"), (way, answer)
+            script.do("a 0")
+            if answer == "x":
+                script.do("u")
+        script.show()
+
+
+def spoiled_twice(script):
+    """A second way on a table that is spoiled already; two swaps give a good table again."""
+    for first, second in ((1, 1), (2, 1), (2, 2), (2, 4), (2, 6), (2, 9), (4, 4), (4, 11), (5, 5), (6, 6), (7, 7),
+                          (7, 8), (7, 9), (7, 12), (7, 13), (7, 14), (8, 8), (9, 13), (10, 13), (12, 13), (13, 13),
+                          (13, 14), (14, 14), (15, 13), (15, 15), (16, 16)):
+        mixed_table(script)
+        script.do("x %d" % first)
+        script.do("x %d" % second)
+        script.do("t")
+        script.do("u")
+        script.do("t")
+
+
+def nothing_remembered(script):
+    """The table before any command, and `u` with no spoiling before it."""
+    script.do("t")
+    script.do("u")
+    script.block(EXAMPLE, 0, [1])
+    assert script.do("x 7") == "x ?"
+    script.do("u")
+    script.show()
 
 
 def spoiled_again(script, dice, rounds):
@@ -482,28 +512,38 @@ def spoiled_again(script, dice, rounds):
 
 # Lines that are no command
 
+NOT_COMMANDS = [
+    # keys: 1 to 8 hexadecimal digits
+    "f", "f ", "f 2004x", "f 000002004", "f -1", "f +1", "f 0x4", "f 2004 ", " f 2004", "f  2004", "f 2004 1", "F 2004",
+    "c g 2 2", "f \xb2", "f \u0662",
+    # decimal numbers: 1 to 10 digits, within their limits
+    "c 2004", "c 2004 2", "c 2004 2 2 2", "c 2004 257 2", "c 2004 2 257", "c 2004 +2 2", "c 2004 2  2", "c 2004 a 2",
+    "c 2004 00000000002 2", "c 2004 2 4294967297", "a", "a ", "a 140001", "a 00000000064", "a 9999999999", "a 1F",
+    "a 64 1", "a -", "s", "s 32769", "s 1_0", "s 1.0", "s 1 ", "x", "x ", "x 0", "x 17", "x 00000000001", "x -1",
+    "x 1 ", "x ?", "x A", "x \xb9", "x 4294967297",
+    # bytes: an even number of hexadecimal digits, 64 bytes at most in a block
+    "b 0", "b 000", "b 0G", "b 00 00", "b  00", "b ", "b00", "b " + "00" * 65, "b" + EXAMPLE.hex(), "l 0", "l 00 00",
+    "l ", "l 0Z", "l00", "L 00",
+    # commands without words, other letters, other blanks and ends
+    "e ", " e", "E", "e e", "ee", "t 1", "T", "t ", "u 1", "U", "?", "#", "# e", "q", " ", "\t", "e\tt", "e\r", "b\r",
+    "\r", "t\0", "\0", "e\x0b", "e\x0c", "e\x1c", "e\x85", "\xe9", "\ufeffe",
+]
+
+ODD_COMMANDS = [
+    "c 2004 0000000002 002", "c 2004 2 0000000256", "c 00002004 256 2", "a 0000000032", "a 140000", "s 32768", "s 014",
+    "f 12004", "f 00000000", "f fFfFfFfF", "b", "b " + "00" * 64, "b " + EXAMPLE.hex(),
+    "l 01844001010200b1890101B18901", "s 14", "l", "t", "x 0000000002", "t", "u", "t",
+]
+
 
 def grammar(script):
-    """Lines answered `?`, lines just within the grammar, and empty lines."""
+    """Lines answered `?`, empty lines answered by nothing, and lines just within the grammar."""
     script.empty()
     script.blocks([EXAMPLE, EXAMPLE])
-    hex64, hex65 = "00" * 64, "00" * 65
-    for text in ("f 2004x", "f", "f ", "f 000002004", "f -1", "f 0x4", "f 2004 ", " f 2004", "f  2004", "f 2004 1", "F 2004",
-                 "c 2004", "c 2004 2", "c 2004 257 2", "c 2004 2 257", "c 2004 2 2 2", "c 2004 +2 2", "c 2004 2  2",
-                 "c 2004 00000000002 2", "c 2004 2 4294967297", "c g 2 2", "c 2004 a 2", "a", "a ", "a 140001",
-                 "a 00000000064", "a 9999999999", "a 1F", "a 64 1", "a -", "s", "s 32769", "s 1_0", "s 1.0", "s 1 ",
-                 "b 0", "b 0G", "b 00 00", "b  00", "b ", "b " + hex65, "b" + EXAMPLE.hex(), "b 000",
-                 "l 0", "l 00 00", "l ", "l 0Z", "l00", "L 00", "e ", " e", "E", "e e", "ee", "t 1", "T", "t ", "x", "x ",
-                 "x 0", "x 17", "x 00000000001", "x -1", "x 1 ", "x ?", "x A", "u 1", "U", "?", "#", "# e", "q", "e\tt",
-                 "e\r", "b\r", "\r", " ", "\t", "t\0", "\0", "e\x0b", "e\x0c", "e\x1c", "e\x85", "f \xb2", "\xe9",
-                 "x \xb9"):
-        assert script.raw(text.encode("latin-1")) == ["?"], text
+    for text in NOT_COMMANDS:
+        assert script.raw(text.encode("utf-8")) == ["?"], text
         script.seen["?"] += 1
-    assert script.raw("f ٢".encode("utf-8")) == ["?"]
     for _ in range(2):
         assert script.raw(b"") == []
-    for text in ("c 2004 0000000002 002", "c 2004 2 0000000256", "c 00002004 256 2", "a 0000000032", "a 140000", "s 32768",
-                 "s 014", "f 12004", "f 00000000", "f fFfFfFfF", "b", "b " + hex64, "b " + EXAMPLE.hex(),
-                 "l 018440010102 00b18901 01B18901".replace(" ", "").replace("l", "l "), "s 14", "l", "t",
-                 "x 0000000002", "t", "u", "t"):
+    for text in ODD_COMMANDS:
         script.do(text)

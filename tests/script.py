@@ -40,7 +40,7 @@ class Script:
         words = answer.split(" ")
         letter, outcome = words[0], words[1] if len(words) > 1 else ""
         if letter == "x":
-            self.seen["x %s %s" % (text.split(" ")[1], outcome or "done")] += 1
+            self.seen["x %d %s" % (int(text.split(" ")[1]), outcome or "done")] += 1
         elif letter == "t":
             self.seen["t 9" if answer == "t 9" else "t"] += 1
         else:

@@ -1,0 +1,3 @@
+-- The laws of the block check.
+pub mod Bits
+pub mod Register

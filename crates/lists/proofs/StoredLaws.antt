@@ -1,0 +1,237 @@
+-- Laws of the stored form of a list. In order: zeros; the pairs of a stored list are its items; what is read off a list that
+-- holds something (`Facts`), and that these facts are enough (`holds-by`); a test that fails or passes (`refuted`, `passed`).
+use Prim.Native.Nat.{ℕ, zero, suc, _+_, _-_, _<_, _≤_, min}
+use native.Mathlib.Omega.{arith}
+use mathlib.Core.Path.{_≡_, refl, sym, ap, ap₂, _∙_, subst}
+use mathlib.Core.Logic.{_≢_}
+use mathlib.Core.Bool.{Bool, true, false, not, _&&_, true≢false, false≢true}
+use mathlib.Core.List.{List, [], _∷_, _++_, map}
+use mathlib.Core.Option.{Option, none, some}
+use lib.ListN.{length, getD, take, drop, replicate, length-take, length-drop, length-append, length-map, length-replicate, take-append-drop}
+use lib.Dec.{eqb, leb}
+use lib.Seq.{drop-append-seam, take-append-seam, length-take-le}
+use borrow.Author.Tests.{eqb-true, eqb-false, eq-eqb, leb-true, le-leb}
+use Rattle.rules.specs.Field.{Pair, pair}
+use Rattle.rules.specs.Family.{Listed}
+use Rattle.rules.specs.Collecting.{linkage, IdSet, keyWidth, pairsMeet, namesMeet, allDiffer, firstIsDab, setMeets, ifThere}
+use Rattle.rules.specs.Outcomes.{numberIn, kindIn}
+use Rattle.lists.specs.declared.IdList.{IdList}
+use Rattle.lists.specs.Stored.{padded, storeList, emptyList, storeMaybe, paired, pairsIn, allZero, Holds, Tested}
+use Rattle.lists.proofs.Pairs.{decide, length-paired, length-pairs-in}
+
+-- ---- zeros
+
+all-zero-replicate : (n : ℕ) → allZero (replicate n 0) ≡ true
+unfolding allZero
+all-zero-replicate zero = refl
+all-zero-replicate (suc n) = all-zero-replicate n
+
+and-left : (a b : Bool) → (a && b) ≡ true → a ≡ true
+and-left true b e = refl
+and-left false b e = e
+
+and-right : (a b : Bool) → (a && b) ≡ true → b ≡ true
+and-right true b e = e
+and-right false b e = absurd (false≢true e)
+
+zeros-replicate : (xs : List ℕ) → allZero xs ≡ true → xs ≡ replicate (length xs) 0
+unfolding allZero
+zeros-replicate [] e = refl
+zeros-replicate (x ∷ xs) e = ap₂ _∷_ (eqb-true x 0 (and-left (eqb x 0) (allZero xs) e)) (zeros-replicate xs (and-right (eqb x 0) (allZero xs) e))
+
+-- past the values of a stored array there are zeros
+pub padded-zeros : (n : ℕ) (xs : List ℕ) → allZero (drop (length xs) (padded n 0 xs)) ≡ true
+unfolding padded
+padded-zeros n xs = ap allZero (drop-append-seam xs (replicate (n - length xs) 0)) ∙ all-zero-replicate (n - length xs)
+
+-- an array with zeros past len places is the stored form of those places
+zeros-padded : (n len : ℕ) (xs : List ℕ) → length xs ≡ n → len ≤ n → allZero (drop len xs) ≡ true → xs ≡ padded n 0 (take len xs)
+unfolding padded
+zeros-padded n len xs l h z =
+    sym (take-append-drop len xs)
+    ∙ ap (λ (r : List ℕ). take len xs ++ r) (zeros-replicate (drop len xs) z ∙ ap (λ (k : ℕ). replicate k 0) same)
+  where
+    same : length (drop len xs) ≡ n - length (take len xs)
+    same = length-drop len xs ∙ omega (arith, length-take-le len xs (omega arith))
+
+-- ---- pairs
+
+paired-map : (ps : List Pair) (ks ns : List ℕ) → paired (map kindIn ps ++ ks) (map numberIn ps ++ ns) ≡ ps ++ paired ks ns
+unfolding paired pair kindIn numberIn
+paired-map [] ks ns = refl
+paired-map (p ∷ ps) ks ns = ap (λ (r : List Pair). p ∷ r) (paired-map ps ks ns)
+
+pub pairs-in-store : (l : IdSet) → pairsIn (storeList l .kinds) (storeList l .numbers) (length (l .items)) ≡ l .items
+unfolding pairsIn storeList padded
+pairs-in-store l = ap (take (length (l .items))) (paired-map (l .items) _ _) ∙ take-append-seam (l .items) _
+
+kinds-of-pairs : (ks ns : List ℕ) (len : ℕ) → length ks ≡ length ns → map kindIn (pairsIn ks ns len) ≡ take len ks
+unfolding pairsIn paired kindIn pair
+kinds-of-pairs ks ns zero e = refl
+kinds-of-pairs [] ns (suc len) e = refl
+kinds-of-pairs (k ∷ ks) [] (suc len) e = absurd (omega arith)
+kinds-of-pairs (k ∷ ks) (n ∷ ns) (suc len) e = ap (λ (r : List ℕ). k ∷ r) (kinds-of-pairs ks ns len (omega arith))
+
+numbers-of-pairs : (ks ns : List ℕ) (len : ℕ) → length ks ≡ length ns → map numberIn (pairsIn ks ns len) ≡ take len ns
+unfolding pairsIn paired numberIn pair
+numbers-of-pairs ks ns zero e = refl
+numbers-of-pairs [] [] (suc len) e = refl
+numbers-of-pairs [] (n ∷ ns) (suc len) e = absurd (omega arith)
+numbers-of-pairs (k ∷ ks) [] (suc len) e = absurd (omega arith)
+numbers-of-pairs (k ∷ ks) (n ∷ ns) (suc len) e = ap (λ (r : List ℕ). n ∷ r) (numbers-of-pairs ks ns len (omega arith))
+
+-- an array of zeros
+all-zeros : (xs : List ℕ) → length xs ≡ 128 → allZero xs ≡ true → xs ≡ replicate 128 0
+all-zeros xs l z = zeros-replicate xs z ∙ ap (λ (k : ℕ). replicate k 0) l
+
+-- a set that begins with a DAB service is not empty
+not-none : (ps : List Pair) → firstIsDab ps ≡ true → length ps ≡ 0 → ⊥
+unfolding firstIsDab
+not-none [] e z = false≢true e
+not-none (p ∷ ps) e z = omega arith
+
+first-kept : (ks ns : List ℕ) (len : ℕ) → length ks ≡ 128 → length ns ≡ 128 → (len ≡ 0 → ⊥) → getD ks 0 0 ≡ 0 → firstIsDab (pairsIn ks ns len) ≡ true
+unfolding pairsIn paired firstIsDab pair
+first-kept [] ns len k n z e = absurd (omega arith)
+first-kept (a ∷ ks) [] len k n z e = absurd (omega arith)
+first-kept (a ∷ ks) (b ∷ ns) zero k n z e = absurd (z refl)
+first-kept (a ∷ ks) (b ∷ ns) (suc len) k n z e = eq-eqb a 0 e
+
+-- ---- what is read off a list that holds something
+
+pub record Facts (key : ℕ) (l : IdList) : Type 0 where
+  pub short : l .len ≤ 128
+  pub numbers-end : allZero (drop (l .len) (l .numbers)) ≡ true
+  pub kinds-end : allZero (drop (l .len) (l .kinds)) ≡ true
+  pub unnamed : l .len ≡ 0 → l .named ≡ 0
+  pub first : (l .len ≡ 0 → ⊥) → getD (l .kinds) 0 0 ≡ 0
+  pub names : (l .len ≡ 0 → ⊥) → namesMeet key (l .named) ≡ true
+  pub pairs : (l .len ≡ 0 → ⊥) → pairsMeet (keyWidth key) (l .named) (pairsIn (l .kinds) (l .numbers) (l .len)) ≡ true
+  pub differ : (l .len ≡ 0 → ⊥) → allDiffer (pairsIn (l .kinds) (l .numbers) (l .len)) ≡ true
+
+-- the parts of the rule for a set
+pub record SetFacts (key : ℕ) (l : IdSet) : Type 0 where
+  pub short : length (l .items) ≤ 128
+  pub first : firstIsDab (l .items) ≡ true
+  pub differ : allDiffer (l .items) ≡ true
+  pub pairs : pairsMeet (keyWidth key) (l .named) (l .items) ≡ true
+  pub names : namesMeet key (l .named) ≡ true
+
+pub set-facts : (key : ℕ) (l : IdSet) → setMeets key l ≡ true → SetFacts key l
+unfolding setMeets
+set-facts key l e =
+    let a = and-left _ (namesMeet key (l .named)) e in
+    let b = and-left _ (pairsMeet (keyWidth key) (l .named) (l .items)) a in
+    let d = and-left _ (allDiffer (l .items)) b in
+    record {
+      short = leb-true _ _ (and-left (leb (length (l .items)) 128) (firstIsDab (l .items)) d);
+      first = and-right (leb (length (l .items)) 128) (firstIsDab (l .items)) d;
+      differ = and-right (leb (length (l .items)) 128 && firstIsDab (l .items)) (allDiffer (l .items)) b;
+      pairs = and-right (leb (length (l .items)) 128 && firstIsDab (l .items) && allDiffer (l .items)) (pairsMeet (keyWidth key) (l .named) (l .items)) a;
+      names = and-right (leb (length (l .items)) 128 && firstIsDab (l .items) && allDiffer (l .items) && pairsMeet (keyWidth key) (l .named) (l .items)) (namesMeet key (l .named)) e }
+
+pub set-meets : (key : ℕ) (l : IdSet) → SetFacts key l → setMeets key l ≡ true
+unfolding setMeets
+set-meets key l f = rw (le-leb _ _ (f .short), f .first, f .differ, f .pairs, f .names)
+
+first-kind : (ps : List Pair) (pad : List ℕ) → firstIsDab ps ≡ true → getD (map kindIn ps ++ pad) 0 0 ≡ 0
+unfolding firstIsDab kindIn
+first-kind [] pad e = absurd (false≢true e)
+first-kind (p ∷ ps) pad e = eqb-true (p .kind) 0 e
+
+-- a stored set of at least one pair
+first-of : (l : IdSet) → firstIsDab (l .items) ≡ true → getD (storeList l .kinds) 0 0 ≡ 0
+unfolding storeList padded
+first-of l e = first-kind (l .items) _ e
+
+some-facts : (key : ℕ) (l : IdSet) → SetFacts key l → Facts key (storeList l)
+unfolding storeList
+some-facts key l f =
+    record {
+      short = f .short;
+      numbers-end = rw (← length-map (l .items) numberIn) (padded-zeros 128 (map numberIn (l .items)));
+      kinds-end = rw (← length-map (l .items) kindIn) (padded-zeros 128 (map kindIn (l .items)));
+      unnamed = λ z. absurd (not-none (l .items) (f .first) z);
+      first = λ n. first-of l (f .first);
+      names = λ n. f .names;
+      pairs = λ n. ap (pairsMeet (keyWidth key) (l .named)) (pairs-in-store l) ∙ f .pairs;
+      differ = λ n. ap allDiffer (pairs-in-store l) ∙ f .differ }
+
+store-facts : (key : ℕ) (o : Option IdSet) → ifThere key o ≡ true → Facts key (storeMaybe o)
+unfolding ifThere storeMaybe emptyList allZero
+store-facts key none e =
+    record {
+      short = omega arith; numbers-end = refl; kinds-end = refl; unnamed = λ z. refl;
+      first = λ n. absurd (n refl); names = λ n. absurd (n refl); pairs = λ n. absurd (n refl); differ = λ n. absurd (n refl) }
+store-facts key (some l) e = some-facts key l (set-facts key l e)
+
+pub holds-facts : (key : ℕ) (l : IdList) → Holds key l → Facts key l
+unfolding Holds
+holds-facts key l h = subst (Facts key) (sym (h .2)) (store-facts key (h .0) (h .1))
+
+-- ---- these facts are enough
+
+module _ (key : ℕ) (l : IdList) (f : Facts key l) (numbers-long : length (l .numbers) ≡ 128) (kinds-long : length (l .kinds) ≡ 128) where
+  -- the set that is stored
+  kept : IdSet
+  kept = record { items = pairsIn (l .kinds) (l .numbers) (l .len); named = l .named }
+
+  length-kept : length (pairsIn (l .kinds) (l .numbers) (l .len)) ≡ l .len
+  length-kept = length-pairs-in (l .kinds) (l .numbers) (l .len) ∙ omega (arith, f .short)
+
+  stored : l ≡ storeList kept
+  unfolding storeList kept
+  stored =
+      let ns : l .numbers ≡ padded 128 0 (map numberIn (pairsIn (l .kinds) (l .numbers) (l .len))) =
+            zeros-padded 128 (l .len) (l .numbers) numbers-long (f .short) (f .numbers-end)
+            ∙ ap (padded 128 0) (sym (numbers-of-pairs (l .kinds) (l .numbers) (l .len) (kinds-long ∙ sym numbers-long))) in
+      let ks : l .kinds ≡ padded 128 0 (map kindIn (pairsIn (l .kinds) (l .numbers) (l .len))) =
+            zeros-padded 128 (l .len) (l .kinds) kinds-long (f .short) (f .kinds-end)
+            ∙ ap (padded 128 0) (sym (kinds-of-pairs (l .kinds) (l .numbers) (l .len) (kinds-long ∙ sym numbers-long))) in
+      λ i. record { numbers = ns i; kinds = ks i; len = sym length-kept i; named = l .named }
+
+  kept-facts : (l .len ≡ 0 → ⊥) → SetFacts key kept
+  unfolding kept
+  kept-facts n =
+      record {
+        short = subst (λ (k : ℕ). k ≤ 128) (sym length-kept) (f .short);
+        first = first-kept (l .kinds) (l .numbers) (l .len) kinds-long numbers-long n (f .first n);
+        differ = f .differ n; pairs = f .pairs n; names = f .names n }
+
+  empty-stored : l .len ≡ 0 → l ≡ emptyList
+  unfolding emptyList
+  empty-stored z =
+      let ns : l .numbers ≡ replicate 128 0 = all-zeros (l .numbers) numbers-long (subst (λ (k : ℕ). allZero (drop k (l .numbers)) ≡ true) z (f .numbers-end)) in
+      let ks : l .kinds ≡ replicate 128 0 = all-zeros (l .kinds) kinds-long (subst (λ (k : ℕ). allZero (drop k (l .kinds)) ≡ true) z (f .kinds-end)) in
+      let nm : l .named ≡ 0 = f .unnamed z in
+      λ i. record { numbers = ns i; kinds = ks i; len = z i; named = nm i }
+
+  pub holds-by : Holds key l
+  unfolding Holds ifThere storeMaybe
+  holds-by =
+      decide (eqb (l .len) 0)
+      (λ z. (none, refl, empty-stored (eqb-true _ _ z)))
+      (λ n. (some kept, set-meets key kept (kept-facts (eqb-false _ _ n)), stored))
+
+-- ---- a test that fails, and one that passes
+
+pub refuted : (P : Type 0) → (P → ⊥) → Tested false P
+refuted P n = record { sound = λ e. absurd (false≢true e); complete = λ p. absurd (n p) }
+
+pub passed : (P : Type 0) → P → Tested true P
+passed P p = record { sound = λ e. p; complete = λ q. refl }
+
+-- a test came out false, and what it tests is so
+pub fails : {a b : Bool} → a ≡ b → a ≡ false → b ≡ true → ⊥
+fails e f t = false≢true (sym f ∙ e ∙ t)
+
+-- an empty list holds something exactly if it names nothing
+pub tested-empty : (key : ℕ) (l : IdList) → length (l .numbers) ≡ 128 → length (l .kinds) ≡ 128 → l .len ≡ 0
+    → allZero (drop (l .len) (l .numbers)) ≡ true → allZero (drop (l .len) (l .kinds)) ≡ true → Tested (eqb (l .named) 0) (Holds key l)
+tested-empty key l nl kl z zn zk =
+    record {
+      sound = λ e. holds-by key l
+        (record {
+          short = omega arith; numbers-end = zn; kinds-end = zk; unnamed = λ q. eqb-true (l .named) 0 e;
+          first = λ n. absurd (n z); names = λ n. absurd (n z); pairs = λ n. absurd (n z); differ = λ n. absurd (n z) }) nl kl;
+      complete = λ h. eq-eqb _ _ (holds-facts key l h .unnamed z) }

@@ -1,0 +1,56 @@
+-- How a list of identifiers is stored (document 01, Collecting: one content has one stored form, unused places included).
+-- A set has at least one identifier, so length 0, with everything zero, is the stored form of no list.
+use Prim.Native.Nat.{ℕ, zero, suc, _+_, _-_, _≤_}
+use mathlib.Core.Path.{_≡_}
+use mathlib.Core.Bool.{Bool, true, false, _&&_}
+use mathlib.Core.List.{List, [], _∷_, _++_, map}
+use mathlib.Core.Option.{Option, none, some}
+use lib.ListN.{length, take, drop, replicate}
+use lib.Dec.{eqb}
+use Rattle.rules.specs.Field.{Pair, pair}
+use Rattle.rules.specs.Collecting.{IdSet, ifThere}
+use Rattle.rules.specs.Outcomes.{numberIn, kindIn}
+use Rattle.lists.specs.declared.IdList.{IdList}
+
+-- these values, and then others up to n places
+unfoldable pub padded {ℓ} : {A : Type ℓ} → ℕ → A → List A → List A
+padded n d xs = xs ++ replicate (n - length xs) d
+
+-- a list: numbers and kinds from place 0 on, zeros past them
+unfoldable pub storeList : IdSet → IdList
+storeList l =
+    record {
+      numbers = padded 128 0 (map numberIn (l .items)); kinds = padded 128 0 (map kindIn (l .items));
+      len = length (l .items); named = l .named }
+
+-- no list
+unfoldable pub emptyList : IdList
+emptyList = record { numbers = replicate 128 0; kinds = replicate 128 0; len = 0; named = 0 }
+
+unfoldable pub storeMaybe : Option IdSet → IdList
+storeMaybe none = emptyList
+storeMaybe (some l) = storeList l
+
+-- kinds and numbers side by side
+unfoldable pub paired : List ℕ → List ℕ → List Pair
+paired [] ns = []
+paired (k ∷ ks) [] = []
+paired (k ∷ ks) (n ∷ ns) = pair k n ∷ paired ks ns
+
+-- the pairs that stand in the first len places of two arrays
+unfoldable pub pairsIn : List ℕ → List ℕ → ℕ → List Pair
+pairsIn kinds numbers len = take len (paired kinds numbers)
+
+-- every number is zero
+unfoldable pub allZero : List ℕ → Bool
+allZero [] = true
+allZero (x ∷ xs) = eqb x 0 && allZero xs
+
+-- what is stored is the stored form of a list that meets the rules for its key, or of none
+unfoldable pub Holds : ℕ → IdList → Type 0
+Holds key l = (o : Option IdSet) × (ifThere key o ≡ true) × (l ≡ storeMaybe o)
+
+-- a test says exactly whether it is
+pub record Tested (answer : Bool) (P : Type 0) : Type 0 where
+  pub sound : answer ≡ true → P
+  pub complete : P → answer ≡ true

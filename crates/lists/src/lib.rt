@@ -1,0 +1,207 @@
+// Lists of identifiers as they are stored: a shown set or an open list (document 01, Collecting).
+// Every function is proved and none that is `pub` has a `requires`. The stored form is storeList of
+// specs/Stored.antt; what a list may hold is ifThere of crate rules.
+
+ghost use mathlib.Core.Path.{_≡_};
+ghost use mathlib.Core.Bool.{Bool};
+ghost use lib.Dec.{ltb};
+ghost use Prim.Native.Nat.{_^_};
+ghost use Prim.Native.Nat.{min};
+ghost use lib.ListN.{length, drop};
+ghost use Rattle.rules.specs.Field.{pair};
+ghost use Rattle.rules.specs.Family.{member};
+ghost use Rattle.rules.specs.Collecting.{linkage, keyWidth, kindNamed, namesMeet, pairsMeet, allDiffer};
+ghost use Rattle.lists.specs.Stored.{emptyList, pairsIn, allZero, Holds, Tested};
+
+// Numbers and kinds of `len` identifiers, in order, and the kinds that the list names: 1 RDS plus
+// 2 DRM or AMSS. Every place past them is zero. Length 0 means that there is no list.
+pub struct IdList {
+    pub numbers: [u32; 128],
+    pub kinds: [u8; 128],
+    pub len: usize,
+    pub named: u8,
+}
+
+impl IdList {
+    // No list.
+    pub fn empty() -> Self
+        ensures { λ r. ⌜ r ≡ emptyList ⌝ }
+    {
+        Self {
+            numbers: [0u32; 128],
+            kinds: [0u8; 128],
+            len: 0,
+            named: 0,
+        }
+    }
+}
+
+// The smaller of two counts.
+pub fn least(a: usize, b: usize) -> usize
+    ensures { λ r. ⌜ r ≡ min a b ⌝ }
+{
+    if a < b { a } else { b }
+}
+
+// Whether a pair stands among the first `len` of these, from place `from` on.
+pub fn stands_in<'a>(numbers: &'a [u32], kinds: &'a [u8], from: usize, len: usize, kind: u8, number: u32) -> bool
+    ensures { λ r. ⌜ r ≡ member linkage (pair kind number) (drop from (pairsIn (now (kinds .entry)) (now (numbers .entry)) len)) ⌝ }
+{
+    let end = least(len, least(kinds.len(), numbers.len()));
+    let mut i = from;
+    while i < end {
+        if kinds[i] == kind {
+            if numbers[i] == number {
+                return true;
+            }
+        }
+        i += 1;
+    }
+    false
+}
+
+// ---- the test of the table rules, for one list
+
+// Whether every number from a place on is zero.
+pub fn zeros_u32(numbers: &[u32], from: usize) -> bool
+    ensures { λ r. ⌜ r ≡ allZero (drop from (now (numbers .entry))) ⌝ }
+{
+    let mut i = from;
+    while i < numbers.len() {
+        if numbers[i] != 0 {
+            return false;
+        }
+        i += 1;
+    }
+    true
+}
+
+// The same for bytes.
+pub fn zeros_u8(bytes: &[u8], from: usize) -> bool
+    ensures { λ r. ⌜ r ≡ allZero (drop from (now (bytes .entry))) ⌝ }
+{
+    let mut i = from;
+    while i < bytes.len() {
+        if bytes[i] != 0 {
+            return false;
+        }
+        i += 1;
+    }
+    true
+}
+
+// The bytes of an identifier of a key.
+pub fn width_of(key: u32) -> usize
+    ensures { λ r. ⌜ r ≡ keyWidth key ⌝ }
+{
+    if key / 16384 % 2 == 1 {
+        4
+    } else if key / 4096 % 2 == 1 {
+        3
+    } else {
+        2
+    }
+}
+
+// Whether a number is within a key's width.
+pub fn fits_key(key: u32, number: u32) -> bool
+    ensures { λ r. ⌜ r ≡ ltb number (256 ^ keyWidth key) ⌝ }
+{
+    if key / 16384 % 2 == 1 {
+        true
+    } else if key / 4096 % 2 == 1 {
+        number < 16777216
+    } else {
+        number < 65536
+    }
+}
+
+// Whether a kind is one that there is, and named if it is RDS or DRM.
+pub fn kind_named(named: u8, kind: u8) -> bool
+    ensures { λ r. ⌜ r ≡ kindNamed named kind ⌝ }
+{
+    if kind == 0 {
+        true
+    } else if kind == 1 {
+        named % 2 == 1
+    } else if kind == 3 {
+        named / 2 == 1
+    } else {
+        false
+    }
+}
+
+// Whether a key's list may name these kinds.
+pub fn names_meet(key: u32, named: u8) -> bool
+    ensures { λ r. ⌜ r ≡ namesMeet key named ⌝ }
+{
+    if key / 16384 % 2 == 1 {
+        named == 0
+    } else {
+        named < 4
+    }
+}
+
+// Whether every number is within the key's width and every kind among the named.
+pub fn pairs_meet<'a>(key: u32, named: u8, numbers: &'a [u32], kinds: &'a [u8], len: usize) -> bool
+    ensures { λ r. ⌜ r ≡ pairsMeet (keyWidth key) named (pairsIn (now (kinds .entry)) (now (numbers .entry)) len) ⌝ }
+{
+    let end = least(len, least(kinds.len(), numbers.len()));
+    let mut i = 0;
+    while i < end {
+        if !fits_key(key, numbers[i]) {
+            return false;
+        }
+        if !kind_named(named, kinds[i]) {
+            return false;
+        }
+        i += 1;
+    }
+    true
+}
+
+// Whether no pair stands twice.
+pub fn all_differ<'a>(numbers: &'a [u32], kinds: &'a [u8], len: usize) -> bool
+    ensures { λ r. ⌜ r ≡ allDiffer (pairsIn (now (kinds .entry)) (now (numbers .entry)) len) ⌝ }
+{
+    let end = least(len, least(kinds.len(), numbers.len()));
+    let mut i = 0;
+    while i < end {
+        if stands_in(numbers, kinds, i + 1, len, kinds[i], numbers[i]) {
+            return false;
+        }
+        i += 1;
+    }
+    true
+}
+
+impl IdList {
+    // Whether this is the stored form of a list that meets the rules for its key, or of none.
+    pub fn meets(self, key: u32) -> bool
+        ensures { λ r. ⌜ Tested r (Holds key self) ⌝ }
+    {
+        let len = self.len;
+        if 128 < len {
+            return false;
+        }
+        if !zeros_u32(&self.numbers, len) {
+            return false;
+        }
+        if !zeros_u8(&self.kinds, len) {
+            return false;
+        }
+        if len == 0 {
+            return self.named == 0;
+        }
+        if self.kinds[0] != 0 {
+            return false;
+        }
+        if !names_meet(key, self.named) {
+            return false;
+        }
+        if !pairs_meet(key, self.named, &self.numbers, &self.kinds, len) {
+            return false;
+        }
+        all_differ(&self.numbers, &self.kinds, len)
+    }
+}

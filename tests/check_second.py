@@ -1,0 +1,620 @@
+"""Checks the second program against itself and against document 01.
+
+    python3 tests/check_second.py
+
+Prints a line for each check; exit status 1 if one fails.
+"""
+
+import copy
+import sys
+import traceback
+
+sys.dont_write_bytecode = True
+
+from making import Dice, block, block_of, damaged, linking_fig, more, short, start, whole_list, with_check
+from material import (BAD_SHEETS, DAB, DRM, GOOD_SHEETS, RDS, faulty_block, largest_sheet, long_sheet, many_sets,
+                      most_pieces, random_figs, random_keys, random_pairs, sheet_bytes)
+from second import air, sheet, spoil, stored
+from second.block import check_of, check_passes
+from second.field import NAME, examine
+from second.listing import listing
+from second.replay import Replay, run
+from second.table import (SHOWN_AND_OPENED, Entry, IdList, collect, copy_out, drop_open_lists, forget, meets_rules,
+                          read_block, shown_sets)
+
+EXAMPLE = block_of("08 06 E0 04 22 44 B1 44 B1")
+LENGTHS = [1, 1, 2, 2, 3, 6, 7, 8, 9, 12, 13, 14, 24, 25, 36, 127, 128]
+
+
+# Random tables
+
+
+def random_ids(dice, key):
+    """A list that meets the rules: any length, kinds anyhow, sometimes a dead link."""
+    pairs = random_pairs(dice, key, dice.pick(LENGTHS))
+    named = 0
+    for kind, _ in pairs:
+        named |= NAME[kind]
+    if not key & 0x4000 and dice.chance(40):
+        named |= dice.between(1, 3)
+    return IdList(pairs, named)
+
+
+def random_table(dice, most=32):
+    """A table that meets the rules, with entries of every sort."""
+    table = {}
+    for key in random_keys(dice, dice.between(0, most)):
+        shown = random_ids(dice, key) if dice.chance(70) else None
+        opened = random_ids(dice, key) if dice.chance(50) else None
+        table[key] = Entry(dice.chance(50), shown, opened)
+    return table
+
+
+def corner_tables():
+    """Tables at the limits of the writers."""
+    sheets = [largest_sheet(), most_pieces(0x2000), most_pieces(0x9000), b"\0"]
+    sheets += [sheet_bytes(items) for items in GOOD_SHEETS + [many_sets(32), long_sheet(128), long_sheet(128, 0x4004)]]
+    return [loaded(data) for data in sheets]
+
+
+def loaded(data):
+    outcome, table = sheet.load(data)
+    assert outcome == 0
+    return table
+
+
+def shows(table):
+    """What a table shows, for comparison."""
+    return [(key, entry.on, entry.shown.named, entry.shown.pairs) for key, entry in shown_sets(table)]
+
+
+def read_all(table, blocks):
+    for data in blocks:
+        assert read_block(table, data)[0] == 0
+
+
+# The checks; each answers a few words on what it did
+
+
+def block_check():
+    """The check against two known values; one turned bit is always noticed."""
+    assert check_of(b"\xff" + bytes(29)) == 0xA8A8
+    assert check_of(b"123456789") == 0xD64E
+    dice = Dice(1)
+    for _ in range(20):
+        good = with_check(bytes(dice.below(256) for _ in range(30)))
+        assert check_passes(good)
+        assert not any(check_passes(damaged(good, bit)) for bit in range(256))
+    return "A8A8 for the empty FIB"
+
+
+def examples():
+    """Document 01, Examples: what it says of each, typed in by hand."""
+    once, both = "2004 on shown - open 1 D44B1 R44B1", "2004 on shown 1 D44B1 R44B1 open 1 D44B1 R44B1"
+    none = "2004 on shown - open -"
+    off = "2004 off shown 1 D44B1 R44B1 open 1 D44B1 R44B1"
+    for number, blocks, answers in (
+            (1, [EXAMPLE], ["b 0 1", "t 1", once]),
+            (2, [EXAMPLE] * 2, ["b 0 1", "b 0 2", "t 1", both]),
+            (3, [EXAMPLE] * 2 + [block_of("03 06 20 04")], ["b 0 1", "b 0 2", "b 0 7", "t 1", off]),
+            (4, [EXAMPLE, damaged(EXAMPLE), EXAMPLE], ["b 0 1", "b 2", "b 0 1", "t 1", once]),
+            (5, [block_of("FF")], ["b 0", "t 0"]),
+            (6, [EXAMPLE, block_of("00")], ["b 0 1", "b 3", "t 1", none]),
+            (7, [EXAMPLE, block_of("02 06 20")], ["b 0 1", "b 4", "t 1", none]),
+            (8, [EXAMPLE, block_of("03 06 20 00")], ["b 0 1", "b 5", "t 1", none]),
+            (9, [EXAMPLE, block_of("04 06 E0 04 00")], ["b 0 1", "b 6", "t 1", none]),
+            (10, [block_of("04 26 36 E0 04"), block_of("04 26 36 E0 04 00")], ["b 4", "b 3", "t 0"]),
+            (11, [EXAMPLE, EXAMPLE[:31]], ["b 0 1", "b 1", "t 1", once]),
+            (12, [with_check(b"\x1d\x01".ljust(30, b"\x11"))], ["b 0", "t 0"]),
+            (13, [with_check(b"\x1e\x01".ljust(30, b"\x11"))], ["b 3", "t 0"])):
+        script = "".join("b %s\n" % data.hex() for data in blocks) + "t\n"
+        assert run(script.encode()) == answers, number
+    table = {}                                                                      # 13
+    read_all(table, whole_list(0x2004, 1, [(DAB, number) for number in range(127)]))
+    assert read_block(table, more(0x2004, 1, DAB, [500])) == (0, [3]) and len(table[0x2004].open.pairs) == 128
+    assert read_block(table, more(0x2004, 1, DAB, [501])) == (0, [6]) and table[0x2004].open is None
+    table = {}                                                                      # 14
+    read_all(table, [start(0x2001 + place, 1, DAB, [1]) for place in range(32)])
+    assert read_block(table, start(0x2021, 1, DAB, [1])) == (0, [5]) and 0x2021 not in table
+    assert forget(table, 0x2001) == 0
+    assert read_block(table, start(0x2021, 1, DAB, [1])) == (0, [1]) and 0x2021 in table
+    table = {}                                                                      # 15
+    read_all(table, [EXAMPLE] * 2)
+    written = bytes.fromhex("01 84 40 01 01 02 00 B1 89 01 01 B1 89 01")
+    assert sheet.sheet_of(shown_sets(table)) == written
+    assert sheet.load(b"\x81\0" + written[1:]) == (10, {})
+    assert listing(EXAMPLE * 2) == ["sets 1", "2004 on ids 2 D44B1 R44B1"]          # 16
+    assert listing(b"") == ["sets 0"]
+    return "1 to 16"
+
+
+def decided_points():
+    """Points of document 01 that can be misread, each as it is to be read."""
+    key, full = 0x2004, [(DAB, number) for number in range(128)]
+    table = {}                              # repeated pairs do not count towards 128
+    read_all(table, whole_list(key, 1, full))
+    assert read_block(table, more(key, 0, DAB, list(range(12)))) == (0, [3]) and table[key].open.pairs == full
+    assert not table[key].on
+    assert read_block(table, more(key, 1, RDS, [0])) == (0, [6])    # the same number of another kind does
+    assert table[key].on and table[key].open is None and table[key].shown is None
+    assert read_block(table, more(key, 0, RDS, [0])) == (0, [4]) and not table[key].on
+    assert copy_out(table, key, [0] * 256, bytearray(256)) == 11    # held, not shown
+    assert copy_out(table, key | 0x10000, [0] * 256, bytearray(256)) == 7
+    assert stored.fetch(stored.store(table)) == table               # held without lists is a good table
+    one = IdList([(DAB, 5)], 3)             # one identifier: qualifier 0, names by count 0, RDS first
+    assert air.pieces_of(key, one) == [(False, DAB, [5]), (True, RDS, []), (True, DRM, [])]
+    run_of = IdList([(DAB, 99)] + [(RDS, number) for number in range(13)], 1)
+    assert [len(numbers) for _, _, numbers in air.pieces_of(key, run_of)] == [12, 2]
+    table = {}                              # a start names its own qualifier's kind alone
+    read_all(table, [start(key, 1, RDS, [5]), more(key, 1, DRM, []), start(key, 1, DRM, [5])])
+    assert table[key].shown.named == 3 and table[key].open.named == 2
+    assert sheet.load(b"") == (10, {}) and sheet.load(b"\0") == (0, {})
+    return "repeated pairs, names, held without lists, one identifier"
+
+
+def bits_examine(data):
+    """Outcome and fields of a block once more, over its bits as a text of 0 and 1."""
+    if len(data) != 32 or not check_passes(data):
+        return (1 if len(data) != 32 else 2), []
+    bits, figs = "".join("{:08b}".format(byte) for byte in data[:30]), []
+    while bits and not bits.startswith("11111111"):
+        length = int(bits[3:8], 2) * 8
+        if length == 0 or length > len(bits) - 8:
+            return 3, []
+        figs.append((bits[:3], bits[8:8 + length]))
+        bits = bits[8 + length:]
+    fields = []
+    for kind, body in figs:
+        if kind != "000" or body[3:8] != "00110":
+            continue
+        flags, rest = body[:3], body[8:]
+        while rest:
+            listed, la, key, rest = rest[:1], rest[1:2], flags[1:] + rest[2:16], rest[16:]
+            if len(key) < 16:
+                return 4, []
+            mark, numbers = None, []
+            if listed == "1":
+                mark, rest = rest[:8], rest[8:]
+                size = 32 if key[1] == "1" else 24 if key[3] == "1" else 16
+                if len(mark) < 8 or int(mark[4:], 2) * size > len(rest):
+                    return 4, []
+                for _ in range(int(mark[4:], 2)):
+                    numbers.append(int(rest[:size], 2))
+                    rest = rest[size:]
+            fields.append((int(key, 2), flags[0] == "1", la == "1", mark, numbers))
+    for key, _, _, mark, _ in fields:
+        if key % 4096 == 0:
+            return 5, []
+        if mark and (mark[0] == "1" or mark[3] == "1" or mark[1:3] == "10" or key & 0x4000 and mark[1:3] != "00"):
+            return 5, []
+    if any(mark and not continued and not numbers for _, continued, _, mark, numbers in fields):
+        return 6, []
+    return 0, [(key, cn, on, mark and int(mark, 2), numbers) for key, cn, on, mark, numbers in fields]
+
+
+def reading_over_bits():
+    """The field reader against one that works on a text of bits, on good, faulty and arbitrary blocks."""
+    dice = Dice(2)
+    keys = random_keys(dice, 10)
+    met = set()
+    for _ in range(4000):
+        what = dice.below(4)
+        if what == 0:
+            data = block(*random_figs(dice, keys))
+        elif what == 1:
+            data = faulty_block(dice, keys, [outcome for outcome in (3, 4, 5, 6) if dice.chance(40)])
+        elif what == 2:
+            spoiled = bytearray(block(*random_figs(dice, keys))[:30])
+            spoiled[dice.below(12)] ^= 1 << dice.below(8)
+            data = with_check(bytes(spoiled))
+        else:
+            data = bytes(dice.below(256) for _ in range(30))
+            data = with_check(dice.pick([b"\x06\x06", b"\x1d\x06", b"\x05\x86", b"\x1d\x26", b""]) + data)[:30]
+            data = with_check(data)
+        outcome, fields = examine(data)
+        assert (outcome, [tuple(field) for field in fields]) == bits_examine(data), data.hex()
+        met.add(outcome)
+    assert met == {0, 3, 4, 5, 6}
+    return "4000 blocks"
+
+
+def plain_entry(recording, key):
+    """What is held of a key after a recording, from its fields alone and without a table.
+
+    Held: the key is among the first 32 that are started.  Open: the list of
+    the latest start, if nothing ended it.  Shown: the list of the latest
+    start whose list still stood at the next start.
+    """
+    started, history = [], []               # history: fields of the key, and None for a refused block
+    for data in recording:
+        outcome, fields = examine(data)
+        if outcome >= 2:
+            history.append(None)
+        for field in fields:
+            is_start = field.mark is not None and not field.continued
+            if is_start and field.key not in started:
+                started.append(field.key)
+            if field.key == key and key in started[:32]:
+                history.append(field)
+    if key not in started[:32]:
+        return None
+    states = [field.on for field in history if field]
+    starts = [place for place, field in enumerate(history) if field and field.mark is not None and not field.continued]
+    lists = [plain_list(history[begin:end]) for begin, end in zip(starts, starts[1:] + [len(history)])]
+    whole = [ids for ids in lists[:-1] if ids]
+    return Entry(states[-1], whole[-1] if whole else None, lists[-1])
+
+
+def plain_list(history):
+    """The list of a start and what follows it up to the next start; None if it was dropped."""
+    pairs, named = [], 0
+    for field in history:
+        if field is None:
+            return None
+        if field.mark is None:
+            continue
+        kind = field.mark >> 5 & 3
+        named |= {0: 0, 1: 1, 3: 2}[kind]
+        for place, number in enumerate(field.numbers):
+            pairs.append((DAB if place == 0 and not field.continued else kind, number))
+        pairs = list(dict.fromkeys(pairs))
+        if len(pairs) > 128:
+            return None
+    return IdList(pairs, named)
+
+
+def plain_reader():
+    """The table against a reader that keeps none, on recordings of few keys and of more than 32."""
+    dice = Dice(3)
+    shown = 0
+    for count in (1, 2, 3, 5, 8, 45):
+        for _ in range(4):
+            keys = random_keys(dice, count)
+            recording = [random_block(dice, keys, 4) for _ in range(150)]
+            if count < 3:                   # long lists, past 128 too
+                recording += [more(keys[0], 1, DAB, [dice.below(200) for _ in range(6)]) for _ in range(60)]
+                recording.insert(150, start(keys[0], 1, DAB, [1]))
+                recording += [start(keys[0], 1, DAB, [1])]
+            table = {}
+            for data in recording:
+                read_block(table, data)
+            for key in keys:
+                assert table.get(key) == plain_entry(recording, key), "%X" % key
+            shown += len(shown_sets(table))
+    assert shown > 50
+    return "%d shown sets" % shown
+
+
+def random_block(dice, keys, percent_refused):
+    """A good block of these keys, or a refused one."""
+    if dice.chance(percent_refused):
+        return faulty_block(dice, keys, [dice.between(2, 6)])
+    return block(*random_figs(dice, keys))
+
+
+def air_read_back():
+    """Written for air and read twice into an empty table: the same sets; read once: none."""
+    dice = Dice(4)
+    tables = corner_tables() + [random_table(dice, dice.pick([1, 3, 32])) for _ in range(60)]
+    for table in tables:
+        assert meets_rules(table)
+        blocks = air.blocks_of(shown_sets(table))
+        again = {}
+        read_all(again, blocks)
+        assert not shows(again)
+        read_all(again, blocks)
+        assert shows(again) == shows(table)
+        for data in blocks:
+            assert data[data[0] + 1] == 0xFF and not any(data[data[0] + 2:30])
+    return "%d tables" % len(tables)
+
+
+def sheets_back():
+    """A sheet loads to what the table shows and is written again equal; equal sheets, equal showing."""
+    dice = Dice(5)
+    tables = corner_tables() + [random_table(dice, dice.pick([1, 3, 32])) for _ in range(150)]
+    seen = {}
+    for table in tables:
+        data = sheet.sheet_of(shown_sets(table))
+        again = loaded(data)
+        assert meets_rules(again) and shows(again) == shows(table)
+        assert all(entry.open is None for entry in again.values())
+        assert sheet.sheet_of(shown_sets(again)) == data
+        assert seen.setdefault(data, shows(table)) == shows(table)
+    return "%d tables" % len(tables)
+
+
+def strict_sheet(data):
+    """Whether these bytes are a sheet, tested number by number as document 01 says it."""
+    place = 0
+
+    def number():
+        nonlocal place
+        value = 0
+        for group in range(5):
+            byte = data[place]              # IndexError where the sheet ends too soon
+            place += 1
+            value |= (byte & 127) << 7 * group
+            if byte < 128:
+                assert value < 1 << 32 and (group == 0 or byte)
+                return value
+        raise AssertionError
+
+    try:
+        last, sets = 0, number()
+        assert sets <= 32
+        for _ in range(sets):
+            key, on, named, count = number(), number(), number(), number()
+            assert last < key < 65536 and key % 4096 and on <= 1 and named <= 3 and 1 <= count <= 128
+            size = 32 if key & 0x4000 else 24 if key & 0x1000 else 16
+            pairs = [(number(), number()) for _ in range(count)]
+            kinds = {kind for kind, _ in pairs}
+            assert kinds <= {0, 1, 3} and pairs[0][0] == 0 and len(set(pairs)) == count
+            assert all(value < 1 << size for _, value in pairs)
+            assert (1 not in kinds or named & 1) and (3 not in kinds or named & 2)
+            assert not key & 0x4000 or (named == 0 and kinds == {0})
+            last = key
+        return place == len(data)
+    except (AssertionError, IndexError):
+        return False
+
+
+def sheets_accepted():
+    """The loader against a strict reader, on good sheets, bad ones and changed ones."""
+    dice = Dice(6)
+    accepted = refused = 0
+    samples = [sheet_bytes(items) for items in GOOD_SHEETS + BAD_SHEETS + [many_sets(32), many_sets(33)]]
+    samples += [sheet_bytes(long_sheet(length)) for length in (0, 127, 128, 129)]
+    for _ in range(6000):
+        data = bytearray(sheet_bytes(dice.pick(GOOD_SHEETS)))
+        for _ in range(dice.between(1, 2)):
+            place = dice.below(len(data))
+            data[place:place + dice.below(2)] = bytes(dice.pick([0, 1, 2, 3, 4, 5, 128, 129, dice.below(256)])
+                                                      for _ in range(dice.below(3)))
+            data = data or bytearray(1)
+        samples.append(bytes(data))
+    for data in samples:
+        outcome, table = sheet.load(data)
+        assert outcome == (0 if strict_sheet(data) else 10), data.hex()
+        assert outcome == 0 or table == {}
+        accepted += outcome == 0
+        refused += outcome == 10
+    assert accepted > 300 and refused > 300
+    return "%d accepted, %d refused" % (accepted, refused)
+
+
+def rules_kept():
+    """Every table that blocks, forgettings and loads make meets the rules and has its stored form."""
+    dice = Dice(7)
+    steps = 0
+    for count in (1, 3, 10, 33, 50):
+        table = random_table(dice, 5)
+        keys = random_keys(dice, count) + sorted(table)
+        for _ in range(150):
+            if dice.chance(6):
+                forget(table, dice.pick(keys))
+            elif dice.chance(2):
+                table = loaded(sheet.sheet_of(shown_sets(random_table(dice, 10))))
+            else:
+                read_block(table, random_block(dice, keys, 4))
+            assert meets_rules(table) and stored.fetch(stored.store(table)) == table
+            steps += 1
+    return "%d steps" % steps
+
+
+def refusals():
+    """A block refused with 2 to 6 drops open lists and nothing else; other refusals change nothing."""
+    dice = Dice(8)
+    met = set()
+    for _ in range(400):
+        table = random_table(dice, 6)
+        keys = random_keys(dice, 3) + sorted(table)
+        before = copy.deepcopy(table)
+        data = faulty_block(dice, keys, [outcome for outcome in (2, 3, 4, 5, 6) if dice.chance(40)] or [2])
+        if dice.chance(20):
+            data = data[:dice.below(32)]
+        outcome, notes = read_block(table, data)
+        met.add(outcome)
+        assert outcome and not notes
+        if outcome >= 2:
+            drop_open_lists(before)
+        assert table == before
+        key = dice.pick(keys)
+        numbers, kinds = [7] * dice.below(5), bytearray([7]) * dice.below(5)
+        outcome = copy_out(table, key, numbers, kinds)
+        met.add(("c", outcome))
+        written = len(table[key].shown.pairs) if outcome == 0 else 0
+        assert set(numbers[written:]) <= {7} and set(kinds[written:]) <= {7} and table == before
+        for writer, whole in ((air.write, 32 * len(air.blocks_of(shown_sets(table)))),
+                              (sheet.write, len(sheet.sheet_of(shown_sets(table))))):
+            for size in {max(0, whole - 1), whole, whole + 3}:
+                buffer = bytearray([0xAA]) * size
+                outcome, length = writer(shown_sets(table), buffer)
+                assert outcome == (8 if size < whole else 0) and length == (0 if outcome else whole)
+                assert set(buffer[length:]) <= {0xAA}
+    assert met >= {1, 2, 3, 4, 5, 6, ("c", 0), ("c", 7), ("c", 8), ("c", 11)}
+    return "400 tables"
+
+
+def bounds():
+    """128 pieces a set, 131,072 bytes for air and 24,801 for a sheet are reached and never passed."""
+    dice = Dice(9)
+    most = air_most = sheet_most = 0
+    for table in corner_tables() + [random_table(dice) for _ in range(100)]:
+        shown = shown_sets(table)
+        most = max([most] + [len(air.pieces_of(key, entry.shown)) for key, entry in shown])
+        sheet_most = max(sheet_most, len(sheet.sheet_of(shown)))
+        air_most = max(air_most, 32 * sum(len(air.pieces_of(key, entry.shown)) for key, entry in shown))
+    assert (most, air_most, sheet_most) == (128, 131072, 24801)
+    assert len(examine(block(linking_fig(1, 0, 0, *[short(0x2004, 1)] * 14)))[1]) == 14
+    return "128, 131072, 24801, 14 notes"
+
+
+# Demand 3
+
+
+def showings(table, recording):
+    """(item, field) where a set comes to be shown, with what is shown; items are blocks or keys to forget."""
+    table = copy.deepcopy(table)
+    found = {}
+    for item, what in enumerate(recording):
+        if isinstance(what, int):
+            forget(table, what)
+            continue
+        outcome, fields = examine(what)
+        if outcome >= 2:
+            drop_open_lists(table)
+        for place, field in enumerate(fields):
+            if collect(table, field) == SHOWN_AND_OPENED:
+                entry = table[field.key]
+                found[item, place] = (field.key, entry.on, entry.shown.named, tuple(entry.shown.pairs))
+    return found
+
+
+def started(recording):
+    """Distinct keys of the starts in blocks that are taken, skipped ones too."""
+    fields = [field for data in recording if not isinstance(data, int) for field in examine(data)[1]]
+    return {field.key for field in fields if field.mark is not None and not field.continued}
+
+
+def random_recording(dice, keys, length):
+    items = []
+    for _ in range(length):
+        what = dice.below(100)
+        if what < 4:
+            items.append(dice.pick(keys))
+        elif what < 6:
+            items.append(bytes(dice.below(32)))
+        else:
+            items.append(random_block(dice, keys, 3))
+    return items
+
+
+def arrives_well(what):
+    """Whether an item is a block of 32 bytes with a right check."""
+    return not isinstance(what, int) and len(what) == 32 and check_passes(what)
+
+
+def better_and_worse():
+    """What the worse reception comes to show at a field, the better one shows there too."""
+    dice = Dice(10)
+    compared = most = 0
+    for _ in range(120):
+        table = random_table(dice, dice.pick([0, 2, 8]))
+        keys = random_keys(dice, dice.pick([1, 2, 4, 32 - len(table)])) + sorted(table)
+        better = random_recording(dice, keys, dice.pick([20, 60, 120, 200]))
+        count = len(set(table) | started(better))
+        if count > 32:
+            continue
+        most = max(most, count)
+        worse = [damaged(what, dice.below(256)) if arrives_well(what) and dice.chance(12) else what for what in better]
+        shown = showings(table, better)
+        for place, what in showings(table, worse).items():
+            assert shown.get(place) == what
+            compared += 1
+    assert compared > 1000 and most == 32
+    return "%d showings compared, up to %d keys" % (compared, most)
+
+
+def where_it_fails():
+    """Under the three other readings demand 3 does not hold: a counterexample for each."""
+    starts = [start(0x2001 + place, 1, DAB, [1]) for place in range(33)]
+    better = starts + starts[32:]           # counting only starts that open a list
+    worse = [damaged(better[0])] + better[1:]
+    assert len(started(better)) == 33 and (33, 0) in showings({}, worse) and (33, 0) not in showings({}, better)
+    first, second = start(0x2004, 1, DAB, [1]), start(0x2004, 1, DAB, [2])
+    good, bad = {}, {}                      # the state after a field instead of what happens at it
+    for data in (first, first, second, second):
+        read_block(good, data)
+    for data in (first, first, damaged(second), second):
+        read_block(bad, data)
+    assert shows(bad) and shows(bad) != shows(good)
+    added = more(0x2004, 1, DAB, [2])       # a block that is missing instead of failing
+    last = showings({}, [first, first, first, added, first])[4, 0]
+    assert showings({}, [first, first, first, first])[3, 0] != last
+    assert (4, 0) not in showings({}, [first, first, first, damaged(added), first])
+    return "three counterexamples"
+
+
+def spoilings():
+    """Each way breaks every table it applies to; the original stays good."""
+    dice = Dice(11)
+    done = {way: 0 for way in spoil.WAYS}
+    for _ in range(40):
+        good = stored.store(random_table(dice, dice.pick([1, 3, 8, 32])))
+        assert stored.fetch(good) is not None
+        for way in spoil.WAYS:
+            bad = spoil.spoiled(good, way)
+            if bad is not None:
+                assert stored.fetch(bad) is None and bad != good
+                done[way] += 1
+    assert all(done.values()), done
+    return ", ".join("%d: %d" % item for item in sorted(done.items()))
+
+
+def any_stored_form():
+    """A stored form changed at any place is 9, or it is the form of another good table."""
+    dice = Dice(13)
+    good = bad = 0
+    for _ in range(600):
+        form = stored.store(random_table(dice, 4))
+        for _ in range(dice.between(1, 2)):
+            entry = dice.pick(form.entries[:5])
+            ids = dice.pick([entry.shown, entry.open])
+            place = dice.pick([0, 1, 2, 127, dice.below(128)])
+            value = dice.pick([0, 1, 2, 3, 4, 129, 255, dice.below(65536)])
+            what = dice.below(7)
+            if what == 0:
+                entry.key = value
+            elif what == 1:
+                entry.on = not entry.on
+            elif what == 2:
+                ids.numbers[place] = value
+            elif what == 3:
+                ids.kinds[place] = value & 255
+            elif what == 4:
+                ids.length = value
+            elif what == 5:
+                ids.named = value & 255
+            else:
+                form.count = value
+        table = stored.fetch(form)
+        assert table is None or (meets_rules(table) and stored.store(table) == form)
+        good += table is not None
+        bad += table is None
+    assert good > 20 and bad > 200
+    return "%d good, %d answered 9" % (good, bad)
+
+
+def any_line():
+    """Any bytes at all as a script: always one answer a line that is not empty, `t` apart."""
+    dice = Dice(12)
+    replay = Replay()
+    for _ in range(3000):
+        words = [dice.pick(["b", "f", "c", "a", "s", "l", "x", "u", "e", "", "t ", "\r"])]
+        words += [dice.pick(["0", "9", "2004", "1F", "16", "-", "?", "\xff", "", "00"]) for _ in range(dice.below(4))]
+        line = " ".join(words).encode("latin-1")
+        assert len(replay.answer(line)) == (1 if line else 0), line
+    return "3000 lines"
+
+
+CHECKS = [block_check, examples, decided_points, reading_over_bits, plain_reader, air_read_back, sheets_back,
+          sheets_accepted, rules_kept, refusals, bounds, better_and_worse, where_it_fails, spoilings,
+          any_stored_form, any_line]
+
+
+def main():
+    failed = 0
+    for check in CHECKS:
+        try:
+            print("ok      %s: %s" % (check.__name__, check()), flush=True)
+        except Exception:
+            failed += 1
+            print("FAILED  %s" % check.__name__, flush=True)
+            traceback.print_exc()
+    print("%d checks, %d failed" % (len(CHECKS), failed))
+    sys.exit(1 if failed else 0)
+
+
+if __name__ == "__main__":
+    main()

@@ -1,0 +1,378 @@
+"""Writes tests/vectors: replay scripts with their answers, recordings with their listings.
+
+    python3 tests/make_vectors.py [folder]
+
+Everything comes from fixed seeds and is the same on every run.  The maker
+fails where a script does not reach what it is there to reach.
+"""
+
+import os
+import sys
+from collections import Counter
+
+sys.dont_write_bytecode = True
+
+import cases
+import scenes
+from folder import write_files
+from making import Dice, block, block_of, damaged, more, start, whole_list, with_check
+from material import (DAB, DRM, FLAGS, RDS, faulty_block, largest_sheet, long_sheet, most_pieces, random_figs,
+                      random_keys, random_pairs, sheet_bytes)
+from scenes import EXAMPLE
+from script import Script
+from second.listing import listing
+
+HERE = os.path.dirname(os.path.abspath(__file__))
+
+READ_REACH = (["b %d" % outcome for outcome in range(7)] + ["f 0", "f 7", "c 0", "c 7", "c 8", "c 11", "e", "t"]
+              + ["note %d" % note for note in range(1, 9)])
+ALL_REACH = (READ_REACH + ["b 9", "f 9", "c 9", "a 0", "a 8", "a 9", "s 0", "s 8", "s 9", "l 0", "l 10", "t 9", "u"]
+             + ["?"] + ["x %d done" % way for way in range(1, 17)]
+             + ["x %d ?" % way for way in range(1, 17) if way != 2])
+
+
+# examples.in: document 01, Examples
+
+
+def examples():
+    """Examples 1 to 16, each from the empty table."""
+    script = Script()
+
+    def begin(*blocks):
+        script.empty()
+        script.blocks(blocks)
+
+    begin()                                                     # 1
+    script.block(EXAMPLE, 0, [1])
+    script.show()
+    begin(EXAMPLE)                                              # 2
+    script.block(EXAMPLE, 0, [2])
+    script.show()
+    begin(EXAMPLE, EXAMPLE)                                     # 3
+    script.block(block_of("03 06 20 04"), 0, [7])
+    script.show()
+    begin(EXAMPLE)                                              # 4
+    script.block(damaged(EXAMPLE), 2)
+    script.show()
+    script.block(EXAMPLE, 0, [1])
+    script.show()
+    for text, outcome in (("", 0),                              # 5
+                          ("00", 3),                            # 6
+                          ("02 06 20", 4),                      # 7
+                          ("03 06 20 00", 5),                   # 8
+                          ("04 06 E0 04 00", 6),                # 9
+                          ("04 26 36 E0 04", 4),                # 10, first half
+                          ("04 26 36 E0 04 00", 3)):            # 10, second half
+        begin(EXAMPLE)
+        script.block(block_of(text), outcome, [])
+        script.show()
+    begin(EXAMPLE)                                              # 11
+    script.block(EXAMPLE[:31], 1)
+    script.show()
+    script.block(EXAMPLE, 0, [2])
+    script.show()
+    begin(EXAMPLE)                                              # 12
+    script.block(with_check(bytes.fromhex("1D 01").ljust(30, b"\x55")), 0, [])
+    script.show()
+    begin(EXAMPLE)                                              # 13
+    script.block(with_check(bytes.fromhex("1E 01").ljust(30, b"\x55")), 3)
+    script.show()
+    ids = [(DAB, 0x44B1 + number) for number in range(127)]
+    begin(*whole_list(0x2004, 1, ids))
+    script.block(more(0x2004, 1, DAB, [0x5001]), 0, [3])
+    script.show()
+    script.block(more(0x2004, 1, DAB, [0x5002]), 0, [6])
+    script.show()
+    begin(*[start(0x2001 + place, 1, DAB, [0x44B1]) for place in range(32)])      # 14
+    script.block(start(0x2021, 1, DAB, [0x44B1]), 0, [5])
+    script.show()
+    script.expect("f 2005", 0)
+    script.block(start(0x2021, 1, DAB, [0x44B1]), 0, [1])
+    script.show()
+    begin(EXAMPLE, EXAMPLE)                                     # 15
+    assert script.do("s 14") == "s 0 01844001010200B1890101B18901 kept"
+    script.expect("s 13", 8)
+    script.expect("l 01844001010200B1890101B18901", 0)
+    script.show()
+    script.expect("l 8100844001010200B1890101B18901", 10)
+    script.show()
+    begin(EXAMPLE, EXAMPLE)                                     # 16 (its listing: vectors/listing)
+    script.show()
+    script.expect("c 2004 2 2", 0)
+    script.do("a 32")
+    return script
+
+
+# annex.in: documents 000 and 003
+
+
+def round_of(script, blocks):
+    """These blocks read twice, the table and what is written of it."""
+    for _ in range(2):
+        for data in blocks:
+            script.block(data, 0)
+    script.show()
+    script.do("a 4096")
+    script.do("s 24801")
+
+
+def annex():
+    """Annex A of document 000, then sections 3.2 and 3.3 of document 003."""
+    script = Script()
+    for groups in (
+            [[cases.A4], [cases.A5], [cases.A6], [cases.A7], [cases.A8]],   # tables A.4 to A.8
+            [[cases.A5]], [[cases.A8]],                                     # states of keys not held
+            [[cases.A11]],                                                  # A.11
+            [[cases.A15, cases.A16], [cases.A15], [cases.A16]],             # A.15, A.16
+            [[cases.A4], [cases.A15, cases.A16]],                           # LSN 100 hard and soft
+            [[cases.A17]],                                                  # A.17
+            [[cases.A19, cases.A20], [cases.A21]],                          # A.19, A.20, A.21
+            [[cases.A20]], [[cases.A21]], [[cases.A19]],
+            [[cases.a22(1)], [cases.a22(0)]],                               # A.22 on and off
+            [[cases.A23, cases.A24]], [[cases.A24]], [[cases.A23]],         # A.23, A.24
+            [[cases.A27, cases.A28]], [[cases.A29, cases.A30]]):            # A.27 to A.30
+        script.empty()
+        for blocks in groups:
+            round_of(script, blocks)
+    script.empty()                                                          # A.25 is refused and drops open lists
+    script.block(cases.A25, 5)
+    script.blocks([cases.A17, cases.A17])
+    script.block(cases.A25, 5)
+    script.show()
+    script.block(cases.A17, 0, [1])
+    script.show()
+    for eid in sorted(cases.ENSEMBLES):
+        script.empty()
+        for regional in (0, 1):                                             # 3.2 and 3.3 of document 003
+            round_of(script, cases.swiss_cycle(eid, regional))
+        script.block(cases.swiss_states(eid, 0), 0)
+        script.show()
+    return script
+
+
+# read.in and random.in
+
+
+def reading_scenes(script, dice):
+    """All scenes that need e, b, f, c and t alone."""
+    scenes.block_lengths(script, dice)
+    scenes.each_fault(script)
+    scenes.wrong_lengths(script)
+    scenes.one_fig_two_faults(script)
+    scenes.fault_order(script, dice, 150)
+    scenes.many_fields(script)
+    scenes.on_and_off(script)
+    scenes.dead_links(script)
+    scenes.same_digits_other_key(script)
+    scenes.full_table(script, dice)
+    scenes.full_table_one_block(script)
+    for key, kinds in ((0x2004, [DAB]), (0x1004, [DAB, RDS]), (0xE004, [DAB])):
+        scenes.long_list(script, key, kinds)
+    scenes.edge_of_128(script)
+    scenes.forgettings(script, dice)
+
+
+def some_traffic(script, dice, after):
+    """Traffic of few keys, of many, and of one; `after` looks at each table that comes of it."""
+    for count, length in ((1, 40), (2, 60), (4, 80), (8, 100), (20, 120), (40, 160)):
+        script.empty()
+        keys = random_keys(dice, count)
+        scenes.traffic(script, dice, keys, length)
+        after(keys)
+
+
+def read_only():
+    script = Script("ebfct")
+    dice = Dice(20240401)
+    reading_scenes(script, dice)
+    for _ in range(2):
+        some_traffic(script, dice, lambda keys: scenes.copies(script, dice))
+    return script
+
+
+def random_script():
+    script = Script()
+    dice = Dice(20240402)
+    scenes.nothing_remembered(script)
+    reading_scenes(script, dice)
+    some_traffic(script, dice, lambda keys: (scenes.written(script), scenes.copies(script, dice)))
+    for _ in range(4):
+        scenes.random_sets(script, dice, 3, 30)
+        scenes.written(script)
+        scenes.read_back(script)
+    scenes.random_sets(script, dice, 12, 16)
+    scenes.written(script)
+    scenes.copies(script, dice)
+    scenes.read_back(script)
+    scenes.sheets(script)
+    scenes.longest_sets(script)
+    scenes.changed_sheets(script, dice, 300)
+    scenes.each_spoiling(script)
+    scenes.not_to_be_spoiled(script)
+    scenes.spoiled_twice(script)
+    scenes.spoiled_again(script, dice, 250)
+    scenes.grammar(script)
+    return script
+
+
+# large.in
+
+
+def large():
+    """The bounds: the largest sheet, the most blocks for air, the longest line."""
+    script = Script()
+    sheet = largest_sheet()
+    assert len(sheet) == 24801
+    script.load(sheet, 0)
+    script.expect("s 24801", 0)
+    script.expect("s 24800", 8)
+    script.expect("a %d" % script.air_length(), 0)
+    script.expect("a %d" % (script.air_length() - 1), 8)
+    script.show()
+    script.do("c 4100 128 128")
+    script.do("c 4100 127 128")
+    script.load(sheet[:-1], 10)
+    script.load(sheet + b"\0", 10)
+    for flags in (0x2000, 0x9000):
+        sheet = most_pieces(flags)
+        script.load(sheet, 0)
+        assert script.air_length() == 131072
+        script.expect("a 131071", 8)
+        script.do("s 24801")
+    script.expect("a 131072", 0)
+    script.expect("f 9003", 0)
+    script.expect("a %d" % script.air_length(), 0)
+    script.load(most_pieces(0x2000, 1), 0)
+    scenes.read_back(script)
+    for key in (0x2004, 0x3004, 0x4004):
+        script.load(sheet_bytes(long_sheet(128, key)), 0)
+        scenes.read_back(script)
+    for line, answer in ((b"l " + b"0" * 65534, "l 10"),            # 65,536 bytes, the longest line
+                         (b"l " + b"0" * 65535, "?"), (b"l " + b"0" * 65536, "?"), (b"e" * 65537, "?"),
+                         (b"e" * 131073, "?"), (b"b " + b"0" * 65534, "?"), (b"a " + b"0" * 65534, "?")):
+        assert script.raw(line) == [answer]
+    script.show()
+    return script
+
+
+# listing/
+
+
+def one_of_each_width():
+    """National, international and data sets, on and off: a list of blocks for each."""
+    sets = []
+    for flags in FLAGS:
+        pairs = [(DAB, 0xAB), (DAB, 5)] if flags & 0x4000 else [(DAB, 0xAB), (RDS, 5), (DRM, 0xC0DE)]
+        sets.append(whole_list(flags | 0x00F, flags >> 13 & 1, pairs))
+    return sets
+
+
+def all_dead_links():
+    """Kinds named without identifiers, every way there is: a list of blocks for each set."""
+    return [[start(0x2001, 1, RDS, [1])],
+            [start(0x2002, 0, DRM, [2])],
+            [start(0x2003, 1, DAB, [3]), more(0x2003, 1, DRM, []), more(0x2003, 1, RDS, [])],
+            [start(0x3004, 1, RDS, [4, 5]), more(0x3004, 1, DRM, [])],
+            [start(0x3005, 1, DRM, [4, 5]), more(0x3005, 1, RDS, [])],
+            [start(0x2006, 0, DAB, [6])]]
+
+
+def twice(sets):
+    """All blocks of these sets, and once more."""
+    return b"".join(data for blocks in sets * 2 for data in blocks)
+
+
+def full_recording(dice):
+    """32 sets of 128 identifiers each, every start repeated, and a 33rd key that finds no place."""
+    blocks = []
+    keys = random_keys(dice, 33)
+    for key in dice.shuffled(keys[:32]):
+        pieces = whole_list(key, dice.below(2), random_pairs(dice, key, 128))
+        blocks += pieces + pieces[:1]
+    return b"".join(blocks + [start(keys[32], 1, DAB, [1])] * 2)
+
+
+def with_refused(dice, sets):
+    """Each set twice in a row, refused blocks between; some sets come to be shown, some do not."""
+    recording = b""
+    for blocks in sets:
+        for data in blocks + blocks:
+            if dice.chance(15):
+                recording += faulty_block(dice, [0x2004], [dice.between(2, 6)])
+            recording += data
+    return recording
+
+
+def random_recording(dice, count):
+    """Blocks of forty keys, one in twenty refused."""
+    keys = random_keys(dice, 40)
+    return [faulty_block(dice, keys, [dice.between(2, 6)]) if dice.chance(5) else block(*random_figs(dice, keys))
+            for _ in range(count)]
+
+
+def recordings():
+    """Name and bytes of each recording to be listed."""
+    dice = Dice(20240403)
+    widths, dead = one_of_each_width(), all_dead_links()
+    other_ensembles = [blocks for blocks in widths if blocks[0][1] & 0x40]
+    return {
+        "example16": EXAMPLE * 2,
+        "example4": EXAMPLE + damaged(EXAMPLE) + EXAMPLE,
+        "once": EXAMPLE,
+        "empty": b"",
+        "tail-1": EXAMPLE * 2 + b"\x08",
+        "tail-31": EXAMPLE * 2 + EXAMPLE[:31],
+        "tail-only": EXAMPLE[:31],
+        "tail-after-open": EXAMPLE + EXAMPLE[:16],
+        "off": EXAMPLE * 2 + block_of("03 06 20 04"),
+        "refused": with_refused(dice, widths + dead),
+        "refused-all": damaged(EXAMPLE) + block_of("00") + cases.A25,
+        "widths": twice(widths),
+        "dead-links": twice(dead),
+        "oe": twice(other_ensembles),
+        "full": full_recording(dice),
+        "random": b"".join(random_recording(dice, 1000)),
+    }
+
+
+# The folder
+
+
+def reached(name, script, needed):
+    """Fails where the script has not met all it is there to meet."""
+    missing = [what for what in needed if not script.seen[what]]
+    assert not missing, (name, missing)
+
+
+def all_files():
+    """Path under the folder and bytes of every vector file, and what each script met."""
+    scripts = {"examples": examples(), "annex": annex(), "read": read_only(), "random": random_script(),
+               "large": large()}
+    reached("read", scripts["read"], READ_REACH)
+    reached("random", scripts["random"], ALL_REACH)
+    assert scripts["read"].seen["commands"] >= 1500 and scripts["random"].seen["commands"] >= 3000
+    files = {}
+    for name, script in scripts.items():
+        files[name + ".in"] = script.input_bytes()
+        files[name + ".out"] = script.output_bytes()
+    files["random.in"] = files["random.in"][:-1]        # a last line without its LF
+    for name, recording in recordings().items():
+        files["listing/" + name + ".fib"] = recording
+        files["listing/" + name + ".txt"] = "".join(line + "\n" for line in listing(recording)).encode("ascii")
+    return files, {name: script.seen for name, script in scripts.items()}
+
+
+def main():
+    folder = sys.argv[1] if len(sys.argv) > 1 else os.path.join(HERE, "vectors")
+    files, seen = all_files()
+    write_files(folder, files)
+    total = Counter()
+    for name, counts in seen.items():
+        print("%s: %d commands" % (name, counts["commands"]))
+        total.update(counts)
+    print(", ".join("%s: %d" % (what, total[what]) for what in sorted(total)))
+    print("%d files, %d bytes" % (len(files), sum(map(len, files.values()))))
+
+
+if __name__ == "__main__":
+    main()
