@@ -4,13 +4,13 @@ use Prim.Native.Nat.{ℕ, zero, suc, _+_, _-_, _<_, _≤_, min}
 use native.Mathlib.Omega.{arith}
 use mathlib.Core.Path.{_≡_, refl, sym, ap, ap₂, _∙_, subst}
 use mathlib.Core.Logic.{_≢_}
-use mathlib.Core.Bool.{Bool, true, false, not, _&&_, true≢false, false≢true}
+use mathlib.Core.Bool.{Bool, true, false, not, cond, _&&_, true≢false, false≢true}
 use mathlib.Core.List.{List, [], _∷_, _++_, map}
 use mathlib.Core.Option.{Option, none, some}
 use lib.ListN.{length, getD, take, drop, replicate, length-take, length-drop, length-append, length-map, length-replicate, take-append-drop}
 use lib.Dec.{eqb, leb}
 use lib.Seq.{drop-append-seam, take-append-seam, length-take-le}
-use borrow.Author.Tests.{eqb-true, eqb-false, eq-eqb, leb-true, le-leb}
+use borrow.Author.Tests.{eqb-true, eqb-false, eq-eqb, ne-eqb, leb-true, le-leb}
 use Rattle.rules.specs.Field.{Pair, pair}
 use Rattle.rules.specs.Family.{Listed}
 use Rattle.rules.specs.Collecting.{linkage, IdSet, keyWidth, pairsMeet, namesMeet, allDiffer, firstIsDab, setMeets, ifThere}
@@ -26,11 +26,11 @@ unfolding allZero
 all-zero-replicate zero = refl
 all-zero-replicate (suc n) = all-zero-replicate n
 
-and-left : (a b : Bool) → (a && b) ≡ true → a ≡ true
+pub and-left : (a b : Bool) → (a && b) ≡ true → a ≡ true
 and-left true b e = refl
 and-left false b e = e
 
-and-right : (a b : Bool) → (a && b) ≡ true → b ≡ true
+pub and-right : (a b : Bool) → (a && b) ≡ true → b ≡ true
 and-right true b e = e
 and-right false b e = absurd (false≢true e)
 
@@ -44,15 +44,16 @@ pub padded-zeros : (n : ℕ) (xs : List ℕ) → allZero (drop (length xs) (padd
 unfolding padded
 padded-zeros n xs = ap allZero (drop-append-seam xs (replicate (n - length xs) 0)) ∙ all-zero-replicate (n - length xs)
 
--- an array with zeros past len places is the stored form of those places
-zeros-padded : (n len : ℕ) (xs : List ℕ) → length xs ≡ n → len ≤ n → allZero (drop len xs) ≡ true → xs ≡ padded n 0 (take len xs)
+-- an array with one value past len places is the stored form of those places
+pub same-padded {ℓ} : {A : Type ℓ} (n len : ℕ) (d : A) (xs : List A) → length xs ≡ n → len ≤ n → drop len xs ≡ replicate (n - len) d → xs ≡ padded n d (take len xs)
 unfolding padded
-zeros-padded n len xs l h z =
+same-padded {A = A} n len d xs l h e =
     sym (take-append-drop len xs)
-    ∙ ap (λ (r : List ℕ). take len xs ++ r) (zeros-replicate (drop len xs) z ∙ ap (λ (k : ℕ). replicate k 0) same)
-  where
-    same : length (drop len xs) ≡ n - length (take len xs)
-    same = length-drop len xs ∙ omega (arith, length-take-le len xs (omega arith))
+    ∙ ap (λ (r : List A). take len xs ++ r) (e ∙ ap (λ (k : ℕ). replicate (n - k) d) (sym (length-take-le len xs (omega arith))))
+
+pub zeros-padded : (n len : ℕ) (xs : List ℕ) → length xs ≡ n → len ≤ n → allZero (drop len xs) ≡ true → xs ≡ padded n 0 (take len xs)
+zeros-padded n len xs l h z =
+    same-padded n len 0 xs l h (zeros-replicate (drop len xs) z ∙ ap (λ (k : ℕ). replicate k 0) (length-drop len xs ∙ ap (λ (m : ℕ). m - len) l))
 
 -- ---- pairs
 
@@ -168,6 +169,33 @@ store-facts key (some l) e = some-facts key l (set-facts key l e)
 pub holds-facts : (key : ℕ) (l : IdList) → Holds key l → Facts key l
 unfolding Holds
 holds-facts key l h = subst (Facts key) (sym (h .2)) (store-facts key (h .0) (h .1))
+
+-- ---- the list that is stored
+
+-- read off the arrays
+unfoldable pub listOf : IdList → Option IdSet
+listOf l = cond (eqb (l .len) 0) none (some (record { items = pairsIn (l .kinds) (l .numbers) (l .len); named = l .named }))
+
+list-of-store : (key : ℕ) (o : Option IdSet) → ifThere key o ≡ true → listOf (storeMaybe o) ≡ o
+unfolding listOf storeMaybe storeList emptyList ifThere
+list-of-store key none e = refl
+list-of-store key (some l) e =
+    rw (ne-eqb (length (l .items)) 0 (not-none (l .items) (set-facts key l e .first)))
+    (ap (λ (ps : List Pair). some (record { items = ps; named = l .named })) (pairs-in-store l))
+
+pub list-of-holds : (key : ℕ) (l : IdList) → Holds key l → (ifThere key (listOf l) ≡ true) × (storeMaybe (listOf l) ≡ l)
+unfolding Holds
+list-of-holds key l h =
+    let e : listOf l ≡ h .0 = ap listOf (h .2) ∙ list-of-store key (h .0) (h .1) in
+    (ap (ifThere key) e ∙ h .1, ap storeMaybe e ∙ sym (h .2))
+
+pub holds-none : (key : ℕ) → Holds key emptyList
+unfolding Holds ifThere storeMaybe
+holds-none key = (none, refl, refl)
+
+pub empty-by : (key : ℕ) (l : IdList) → Holds key l → l .len ≡ 0 → l ≡ emptyList
+unfolding listOf storeMaybe
+empty-by key l h z = sym (list-of-holds key l h .1) ∙ rw (eq-eqb (l .len) 0 z)
 
 -- ---- these facts are enough
 

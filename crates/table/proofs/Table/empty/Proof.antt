@@ -1,0 +1,25 @@
+-- `table::Table::empty` meets its contract: it is the table of no entries around the list that is none.
+use borrow.Author.Needs.{needs}
+use mathlib.Core.Path.{_≡_, ap}
+use mathlib.Core.Bool.{false}
+use lib.ListN.{replicate}
+use Rattle.lists.specs.declared.IdList.{IdList}
+use Rattle.lists.specs.Stored.{padded}
+use Rattle.table.specs.declared.Table.{Table}
+use Rattle.table.specs.Stored.{storeTable}
+use Rattle.table.proofs.Table.empty.Statement.{statement}
+use Rattle.table.proofs.Table.empty.Tie as tie
+
+-- no entries, with this list in every place
+abbrev around : IdList → Table
+around l = record { count = 0; keys = replicate 32 0; on = replicate 32 false; shown = replicate 32 l; draft = replicate 32 l }
+
+empty-requires : tie.Need-empty-requires
+empty-requires c κs = search needs
+
+returns : tie.Need-returns
+unfolding storeTable padded
+returns c = ap around (c .empty .ensures)
+
+pub empty-spec : {M : Type 1} → statement M
+empty-spec = tie.close (tie.spec empty-requires returns)

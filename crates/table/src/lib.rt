@@ -1,0 +1,131 @@
+// The table of linkage sets as it is stored (document 01, Collecting): its limits, its empty table, the
+// test of the table rules, finding, opening and forgetting a key, copying a set out.
+// Every function is proved and none that is `pub` has a `requires`. The stored form is storeTable of
+// specs/Stored.antt; what a content may hold is `meets` of crate rules.
+
+ghost use mathlib.Core.Path.{_≡_};
+ghost use mathlib.Core.Bool.{Bool, cond};
+ghost use mathlib.Core.List.{[]};
+ghost use lib.ListN.{length, take, drop};
+ghost use lib.Dec.{ltb};
+ghost use Rattle.lists.specs.Stored.{Tested};
+ghost use Rattle.table.specs.Stored.{storeTable, EachHolds, NoneFrom, Stored, Given};
+ghost use Rattle.table.specs.Places.{placeIn, keysMeet, allOff};
+
+use lists::IdList;
+
+// The entries of the held keys, in ascending key order from place 0 on: key, on or off, shown set and
+// open list. Every unused place is zero.
+pub struct Table {
+    pub count: usize,
+    pub keys: [u32; 32],
+    pub on: [bool; 32],
+    pub shown: [IdList; 32],
+    pub draft: [IdList; 32],
+}
+
+impl Table {
+    // The keys that a table holds at most.
+    pub const KEYS: usize = 32;
+    // The identifiers that a set holds at most.
+    pub const IDENTIFIERS: usize = 128;
+
+    // The table that holds nothing.
+    pub fn empty() -> Self
+        ensures { λ r. ⌜ r ≡ storeTable [] ⌝ }
+    {
+        let none = IdList::empty();
+        Self {
+            count: 0,
+            keys: [0u32; 32],
+            on: [false; 32],
+            shown: [none; 32],
+            draft: [none; 32],
+        }
+    }
+}
+
+// ---- the test of the table rules
+
+// Whether keys ascend, lie below 65,536 and have LSN not 0, among the first `count`.
+pub fn keys_meet(keys: &[u32], count: usize) -> bool
+    ensures { λ r. ⌜ r ≡ keysMeet 0 (take count (now (keys .entry))) ⌝ }
+{
+    let end = lists::least(count, keys.len());
+    let mut last = 0u32;
+    let mut i = 0;
+    while i < end {
+        let key = keys[i];
+        if key <= last {
+            return false;
+        }
+        if 65536 <= key {
+            return false;
+        }
+        if key % 4096 == 0 {
+            return false;
+        }
+        last = key;
+        i += 1;
+    }
+    true
+}
+
+// Whether every flag from a place on is off.
+pub fn all_off(on: &[bool], from: usize) -> bool
+    ensures { λ r. ⌜ r ≡ allOff (drop from (now (on .entry))) ⌝ }
+{
+    let mut i = from;
+    while i < on.len() {
+        if on[i] {
+            return false;
+        }
+        i += 1;
+    }
+    true
+}
+
+// Whether each list is the stored form of one that meets the rules for its key, or of none.
+fn lists_meet(keys: [u32; 32], lists: [IdList; 32]) -> bool
+    ensures { λ r. ⌜ Tested r (EachHolds keys lists) ⌝ }
+{
+    let mut i = 0;
+    while i < 32 {
+        let list = lists[i];
+        if !list.meets(keys[i]) {
+            return false;
+        }
+        i += 1;
+    }
+    true
+}
+
+// Whether there is no list from a place on.
+fn none_from(from: usize, lists: [IdList; 32]) -> bool
+    ensures { λ r. ⌜ Tested r (NoneFrom from lists) ⌝ }
+{
+    let mut i = from;
+    while i < 32 {
+        let list = lists[i];
+        if list.len != 0 {
+            return false;
+        }
+        i += 1;
+    }
+    true
+}
+
+// The first place among the first `count` whose key is not smaller than this one.
+pub fn place_of(keys: &[u32], count: usize, key: u32) -> usize
+    ensures { λ r. ⌜ r ≡ placeIn (take count (now (keys .entry))) key ⌝ }
+{
+    let end = lists::least(count, keys.len());
+    let mut i = 0;
+    while i < end {
+        if key <= keys[i] {
+            return i;
+        }
+        i += 1;
+    }
+    i
+}
