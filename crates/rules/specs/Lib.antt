@@ -7,3 +7,4 @@ pub mod Outcomes
 pub mod Air
 pub mod Sheet
 pub mod Listing
+pub mod Demand3

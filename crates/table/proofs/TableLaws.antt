@@ -316,3 +316,7 @@ module _ (t : Table) (f : TableFacts t)
   pub facts-stored : Stored t
   unfolding Stored
   facts-stored = (contentOf, content-meets, is-stored)
+
+-- an array of structs stands in what a function knows under a `map`
+pub length-of-map : {A B : Type 0} (f : A → B) (xs : List A) (n : ℕ) → length (map f xs) ≡ n → length xs ≡ n
+length-of-map f xs n e = sym (length-map xs f) ∙ e

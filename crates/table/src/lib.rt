@@ -115,6 +115,42 @@ fn none_from(from: usize, lists: [IdList; 32]) -> bool
     true
 }
 
+impl Table {
+    // Whether this is the stored form of a content that meets the table rules.
+    pub fn meets(self) -> bool
+        ensures { λ r. ⌜ Tested r (Stored self) ⌝ }
+    {
+        let count = self.count;
+        if 32 < count {
+            return false;
+        }
+        if !keys_meet(&self.keys, count) {
+            return false;
+        }
+        if !lists::zeros_u32(&self.keys, count) {
+            return false;
+        }
+        if !all_off(&self.on, count) {
+            return false;
+        }
+        let keys = self.keys;
+        let shown = self.shown;
+        let draft = self.draft;
+        if !lists_meet(keys, shown) {
+            return false;
+        }
+        if !none_from(count, shown) {
+            return false;
+        }
+        if !lists_meet(keys, draft) {
+            return false;
+        }
+        none_from(count, draft)
+    }
+}
+
+// ---- a key's place
+
 // The first place among the first `count` whose key is not smaller than this one.
 pub fn place_of(keys: &[u32], count: usize, key: u32) -> usize
     ensures { λ r. ⌜ r ≡ placeIn (take count (now (keys .entry))) key ⌝ }

@@ -1,0 +1,604 @@
+-- What is written for air reads back (document 01, Writing for air; demand 2). In order: what a piece's field says; a list to
+-- which different pairs are added; the blocks of a set read into a content, one field after the other; the whole output read
+-- once into the empty content, and then again; and the theorems: the sets are shown again, every block is taken, the length.
+use Prim.Native.Nat.{ℕ, zero, suc, _+_, _*_, _/_, _%_, _≤_, _<_}
+use native.Mathlib.Omega.{arith}
+use mathlib.Core.Path.{_≡_, refl, sym, ap, _∙_}
+use mathlib.Core.Bool.{Bool, true, false, not, cond, _&&_}
+use mathlib.Core.List.{List, [], _∷_, _++_, map, append-assoc, append-nil}
+use mathlib.Core.Option.{Option, none, some}
+use lib.ListN.{length, take, drop, length-append}
+use lib.Seq.{take-at, drop-at, drop-append-add}
+use lib.Dec.{leb, ltb, eqb}
+use borrow.Author.Tests.{ltb-true, leb-true, eqb-false, lt-ltb, eq-eqb, ne-eqb, le-ltb, le-leb, not-true}
+use Rattle.rules.specs.Block.{bit}
+use Rattle.rules.specs.Field.{Field, keyOf, Pair, firstKind, pairsOf, namedBy, hasList, isContinuation}
+use Rattle.rules.specs.Family.{Act, start, continuation, Said, member, added, addedAll, opening, extended, entryWith, started, continued, onHeld, fresh, onUnheld, kept, effect, find, replace, insert, store, step, steps}
+use Rattle.rules.specs.Collecting.{linkage, samePair, joinNames, IdSet, Held, Content, brings, actOf, said, keyWidth, allDiffer, setMeets, ifThere, entryMeets, ascends, entriesMeet, meets, Shown, showing, shownSets}
+use Rattle.rules.specs.Outcomes.{verdict, taken, answerTo, readBlock, readBlocks, readRecording, leftOver}
+use Rattle.rules.specs.Air.{Piece, pieceMost, pieces, figBytes, blockOf, blocksOf, setBlocks, allBlocks, air}
+use Rattle.rules.proofs.Basics.{cases-bool, cases-option, and-left, and-right, or-false-left, or-false-right, Every, every-append, every-imp, eqb-sym}
+use Rattle.rules.proofs.AirPieces.{Below, piecePairs, flat, flat-pieces, IsMore, Shape, pieces-shape, PieceMeets, pieces-meet, SetParts, set-parts, most-room, set-count, join-assoc, join-to-zero, piecesNamed, pieces-named}
+use Rattle.rules.proofs.AirBlock.{fieldOf, block-length, fig-length, kind-small, verdict-back, piece-bytes}
+
+-- ---- what a piece's field says
+
+-- what a piece brings
+unfoldable pub bringsOf : Piece → IdSet
+bringsOf c = record { items = piecePairs c; named = namedBy (c .qualifier) }
+
+-- a piece of a set with this key and state, as a field
+unfoldable pub saidOf : ℕ → Bool → Piece → Said linkage
+saidOf k on c = record { key = k; state = on; act = cond (c .more) (continuation (bringsOf c)) (start (bringsOf c)) }
+
+-- a number and its half
+halves : (k : ℕ) → (k / 16384 ≡ 2 * (k / 32768) + k / 16384 % 2) × (k / 8192 ≡ 2 * (k / 16384) + k / 8192 % 2) × (k / 4096 ≡ 2 * (k / 8192) + k / 4096 % 2)
+halves k = (omega arith, omega arith, omega arith)
+
+key-sum : (k : ℕ) → k < 65536 → 32768 * (k / 32768 % 2) + 16384 * (k / 16384 % 2) + 8192 * (k / 8192 % 2) + 4096 * (k / 4096 % 2) + k % 4096 ≡ k
+key-sum k h =
+    let a : k / 32768 % 2 ≡ k / 32768 = omega arith in
+    let d : k ≡ 4096 * (k / 4096) + k % 4096 = omega arith in
+    sums (k / 32768 % 2) (k / 16384 % 2) (k / 8192 % 2) (k / 4096 % 2) (k % 4096) (k / 32768) (k / 16384) (k / 8192) (k / 4096) k
+    a (halves k .0) (halves k .1) (halves k .2) d
+  where
+    sums : (a b c d e p q r s n : ℕ) → a ≡ p → q ≡ 2 * p + b → r ≡ 2 * q + c → s ≡ 2 * r + d → n ≡ 4096 * s + e
+        → 32768 * a + 16384 * b + 8192 * c + 4096 * d + e ≡ n
+    sums a b c d e p q r s n h1 h2 h3 h4 h5 = omega arith
+
+key-back : (k : ℕ) (on : Bool) (c : Piece) → k < 65536 → keyOf (fieldOf k on c) ≡ k
+unfolding keyOf fieldOf
+key-back k on c h = key-sum k h
+
+state-back : (on : Bool) → eqb (bit on) 1 ≡ on
+unfolding bit
+state-back true = refl
+state-back false = refl
+
+act-back : (k : ℕ) (on : Bool) (c : Piece) → actOf (fieldOf k on c) ≡ saidOf k on c .act
+unfolding actOf fieldOf saidOf hasList isContinuation brings bringsOf pairsOf piecePairs firstKind bit
+act-back k on c = cases-bool (c .more) (λ e. rw e) (λ e. rw e)
+
+pub said-back : (k : ℕ) (on : Bool) (c : Piece) → k < 65536 → said (fieldOf k on c) ≡ saidOf k on c
+unfolding said saidOf fieldOf
+said-back k on c h = λ i. record { key = key-back k on c h i; state = state-back on i; act = act-back k on c i }
+
+-- ---- adding different pairs
+
+same-swap : (p q : Pair) → samePair p q ≡ samePair q p
+unfolding samePair
+same-swap p q = rw (eqb-sym (p .kind) (q .kind), eqb-sym (p .number) (q .number))
+
+-- what is not in a list is not in its front, and is not its next
+absent-left : (p : Pair) (xs ys : List Pair) → member linkage p (xs ++ ys) ≡ false → member linkage p xs ≡ false
+unfolding member
+absent-left p [] ys h = refl
+absent-left p (x ∷ xs) ys h =
+    let a : samePair p x ≡ false = or-false-left (samePair p x) (member linkage p (xs ++ ys)) h in
+    rw a (absent-left p xs ys (or-false-right (samePair p x) (member linkage p (xs ++ ys)) h))
+
+absent-next : (p y : Pair) (xs ys : List Pair) → member linkage p (xs ++ y ∷ ys) ≡ false → samePair p y ≡ false
+unfolding member
+absent-next p y [] ys h = or-false-left (samePair p y) (member linkage p ys) h
+absent-next p y (x ∷ xs) ys h = absent-next p y xs ys (or-false-right (samePair p x) (member linkage p (xs ++ y ∷ ys)) h)
+
+differ-first : (p : Pair) (ps : List Pair) → allDiffer (p ∷ ps) ≡ true → member linkage p ps ≡ false
+unfolding allDiffer
+differ-first p ps h = not-true (member linkage p ps) (and-left (not (member linkage p ps)) (allDiffer ps) h)
+
+differ-rest : (p : Pair) (ps : List Pair) → allDiffer (p ∷ ps) ≡ true → allDiffer ps ≡ true
+unfolding allDiffer
+differ-rest p ps h = and-right (not (member linkage p ps)) (allDiffer ps) h
+
+differ-left : (xs ys : List Pair) → allDiffer (xs ++ ys) ≡ true → allDiffer xs ≡ true
+unfolding allDiffer
+differ-left [] ys h = refl
+differ-left (x ∷ xs) ys h =
+    rw (absent-left x xs ys (differ-first x (xs ++ ys) h)) (differ-left xs ys (differ-rest x (xs ++ ys) h))
+
+-- of different pairs the next is not in the front
+differ-next : (xs : List Pair) (y : Pair) (ys : List Pair) → allDiffer (xs ++ y ∷ ys) ≡ true → member linkage y xs ≡ false
+unfolding member
+differ-next [] y ys h = refl
+differ-next (x ∷ xs) y ys h =
+    let a : samePair x y ≡ false = absent-next x y xs ys (differ-first x (xs ++ y ∷ ys) h) in
+    rw (same-swap y x, a) (differ-next xs y ys (differ-rest x (xs ++ y ∷ ys) h))
+
+-- different pairs are added one after the other
+pub added-all : (xs ys : List Pair) → allDiffer (xs ++ ys) ≡ true → addedAll linkage xs ys ≡ xs ++ ys
+unfolding addedAll added
+added-all xs [] h = sym (append-nil xs)
+added-all xs (y ∷ ys) h =
+    let e : xs ++ (y ∷ []) ++ ys ≡ xs ++ y ∷ ys = append-assoc xs (y ∷ []) ys in
+    rw (differ-next xs y ys h) (added-all (xs ++ y ∷ []) ys (rw e h) ∙ e)
+
+-- ---- one key's entry in a content
+
+-- what is held of a key
+unfoldable pub entry : ℕ → Bool → Option IdSet → Option IdSet → Held
+entry k on sh dr = record { key = k; state = on; shown = sh; draft = dr }
+
+-- every key of a content is below a key
+abbrev pub KeysBelow : ℕ → Content → Type 0
+KeysBelow k t = Every (λ (e : Held). e .key < k) t
+
+other : (a b : ℕ) → b < a → eqb a b ≡ false
+other a b h = ne-eqb a b (λ e. omega arith)
+
+find-at : (k : ℕ) (e : Held) (pre post : Content) → KeysBelow k pre → e .key ≡ k → find linkage k (pre ++ e ∷ post) ≡ some e
+unfolding find
+find-at k e [] post h i = rw (eq-eqb k (e .key) (sym i))
+find-at k e (x ∷ xs) post h i = rw (other k (x .key) (h .0)) (find-at k e xs post (h .1) i)
+
+find-none : (k : ℕ) (t : Content) → KeysBelow k t → find linkage k t ≡ none
+unfolding find
+find-none k [] h = refl
+find-none k (x ∷ xs) h = rw (other k (x .key) (h .0)) (find-none k xs (h .1))
+
+replace-at : (d e : Held) (pre post : Content) → KeysBelow (d .key) pre → e .key ≡ d .key → replace linkage d (pre ++ e ∷ post) ≡ pre ++ d ∷ post
+unfolding replace
+replace-at d e [] post h i = rw (eq-eqb (d .key) (e .key) (sym i))
+replace-at d e (x ∷ xs) post h i =
+    rw (other (d .key) (x .key) (h .0)) (ap (λ (t : Content). x ∷ t) (replace-at d e xs post (h .1) i))
+
+insert-last : (e : Held) (t : Content) → KeysBelow (e .key) t → insert linkage e t ≡ t ++ e ∷ []
+unfolding insert
+insert-last e [] h = refl
+insert-last e (x ∷ xs) h =
+    rw (le-ltb (e .key) (x .key) (omega (arith, h .0))) (ap (λ (t : Content). x ∷ t) (insert-last e xs (h .1)))
+
+-- a list with the pairs and the name of one more piece
+unfoldable pub withPiece : IdSet → Piece → IdSet
+withPiece d c = record { items = d .items ++ piecePairs c; named = joinNames (d .named) (namedBy (c .qualifier)) }
+
+said-more : (k : ℕ) (on : Bool) (c : Piece) → c .more ≡ true → saidOf k on c ≡ record { key = k; state = on; act = continuation (bringsOf c) }
+unfolding saidOf
+said-more k on c m = λ i. record { key = k; state = on; act = cond (m i) (continuation (bringsOf c)) (start (bringsOf c)) }
+
+said-start : (k : ℕ) (on : Bool) (c : Piece) → c .more ≡ false → saidOf k on c ≡ record { key = k; state = on; act = start (bringsOf c) }
+unfolding saidOf
+said-start k on c m = λ i. record { key = k; state = on; act = cond (m i) (continuation (bringsOf c)) (start (bringsOf c)) }
+
+-- a continuation with pairs that differ from those of the open list and among themselves
+held-more : (k : ℕ) (on : Bool) (sh : Option IdSet) (d : IdSet) (c : Piece) → length (d .items ++ piecePairs c) ≤ 128 → allDiffer (d .items ++ piecePairs c) ≡ true
+    → onHeld linkage (entry k on sh (some d)) on (continuation (bringsOf c)) .0 ≡ entry k on sh (some (withPiece d c))
+unfolding onHeld continued extended entry entryWith bringsOf withPiece
+held-more k on sh d c h g =
+    rw (added-all (d .items) (piecePairs c) g, le-leb (length (d .items ++ piecePairs c)) 128 h)
+
+-- a start of a key with an open list
+held-start : (k : ℕ) (on b : Bool) (sh : Option IdSet) (d : IdSet) (c : Piece) → allDiffer (piecePairs c) ≡ true
+    → onHeld linkage (entry k b sh (some d)) on (start (bringsOf c)) .0 ≡ entry k on (some d) (some (bringsOf c))
+unfolding onHeld started opening entry entryWith bringsOf
+held-start k on b sh d c g = rw (added-all [] (piecePairs c) g)
+
+-- the list that the pieces after the first make of it
+unfoldable pub collected : IdSet → List Piece → IdSet
+collected d cs = record { items = d .items ++ flat cs; named = joinNames (d .named) (piecesNamed cs) }
+
+collected-none : (d : IdSet) → collected d [] ≡ d
+unfolding collected flat piecesNamed
+collected-none d = λ i. record { items = append-nil (d .items) i; named = join-to-zero (d .named) i }
+
+collected-next : (d : IdSet) (c : Piece) (cs : List Piece) → collected (withPiece d c) cs ≡ collected d (c ∷ cs)
+unfolding collected withPiece flat piecesNamed
+collected-next d c cs =
+    λ i.
+    record {
+      items = append-assoc (d .items) (piecePairs c) (flat cs) i;
+      named = join-assoc (d .named) (namedBy (c .qualifier)) (piecesNamed cs) i;
+    }
+
+module _ (k : ℕ) (on : Bool) (pre : Content) (low : KeysBelow k pre) where
+  -- a field of a held key
+  step-held : (post : Content) (a : Act linkage) (x d : Held) → x .key ≡ k → d .key ≡ k → onHeld linkage x on a .0 ≡ d
+      → step linkage (pre ++ x ∷ post) (record { key = k; state = on; act = a }) .0 ≡ pre ++ d ∷ post
+  unfolding step effect kept store
+  step-held post a x d i j g = rw (find-at k x pre post low i, g) (replace-at d x pre post (rw j low) (i ∙ sym j))
+
+  step-more : (post : Content) (c : Piece) (sh : Option IdSet) (d : IdSet) → c .more ≡ true
+      → length (d .items ++ piecePairs c) ≤ 128 → allDiffer (d .items ++ piecePairs c) ≡ true
+      → step linkage (pre ++ entry k on sh (some d) ∷ post) (saidOf k on c) .0 ≡ pre ++ entry k on sh (some (withPiece d c)) ∷ post
+  unfolding entry
+  step-more post c sh d m h g =
+      rw (said-more k on c m)
+      (step-held post (continuation (bringsOf c)) (entry k on sh (some d)) (entry k on sh (some (withPiece d c))) refl refl (held-more k on sh d c h g))
+
+  step-start : (post : Content) (c : Piece) (b : Bool) (sh : Option IdSet) (d : IdSet) → c .more ≡ false → allDiffer (piecePairs c) ≡ true
+      → step linkage (pre ++ entry k b sh (some d) ∷ post) (saidOf k on c) .0 ≡ pre ++ entry k on (some d) (some (bringsOf c)) ∷ post
+  unfolding entry
+  step-start post c b sh d m g =
+      rw (said-start k on c m)
+      (step-held post (start (bringsOf c)) (entry k b sh (some d)) (entry k on (some d) (some (bringsOf c))) refl refl (held-start k on b sh d c g))
+
+  -- a start of a new key, where there is room
+  step-new : (c : Piece) → length pre < 32 → c .more ≡ false → allDiffer (piecePairs c) ≡ true
+      → step linkage pre (saidOf k on c) .0 ≡ pre ++ entry k on none (some (bringsOf c)) ∷ []
+  unfolding step effect onUnheld fresh store opening bringsOf entry
+  step-new c r m g =
+      rw (said-start k on c m, find-none k pre low, lt-ltb (length pre) 32 r, added-all [] (piecePairs c) g)
+      (insert-last (entry k on none (some (bringsOf c))) pre low)
+
+  -- continuations, one after the other
+  steps-more : (post : Content) (cs : List Piece) (sh : Option IdSet) (d : IdSet) → Every IsMore cs
+      → length (d .items ++ flat cs) ≤ 128 → allDiffer (d .items ++ flat cs) ≡ true
+      → steps linkage (pre ++ entry k on sh (some d) ∷ post) (map (saidOf k on) cs) .0 ≡ pre ++ entry k on sh (some (collected d cs)) ∷ post
+  unfolding steps flat withPiece
+  steps-more post [] sh d m h g = ap (λ (x : IdSet). pre ++ entry k on sh (some x) ∷ post) (sym (collected-none d))
+  steps-more post (c ∷ cs) sh d m h g =
+      let a : d .items ++ piecePairs c ++ flat cs ≡ d .items ++ (piecePairs c ++ flat cs) = append-assoc (d .items) (piecePairs c) (flat cs) in
+      let h1 : length (d .items ++ piecePairs c ++ flat cs) ≤ 128 = rw a h in
+      let g1 : allDiffer (d .items ++ piecePairs c ++ flat cs) ≡ true = rw a g in
+      let e : length (d .items ++ piecePairs c) ≤ 128 = omega (arith, length-append (d .items ++ piecePairs c) (flat cs)) in
+      let s : step linkage (pre ++ entry k on sh (some d) ∷ post) (saidOf k on c) .0 ≡ pre ++ entry k on sh (some (withPiece d c)) ∷ post =
+      step-more post c sh d (m .0) e (differ-left (d .items ++ piecePairs c) (flat cs) g1) in
+      ap (λ (t : Content). steps linkage t (map (saidOf k on) cs) .0) s
+      ∙ steps-more post cs sh (withPiece d c) (m .1) h1 g1
+      ∙ ap (λ (x : IdSet). pre ++ entry k on sh (some x) ∷ post) (collected-next d c cs)
+
+-- ---- a set's pieces as fields
+
+-- the pieces of a set, for its key
+unfoldable pub piecesFor : ℕ → IdSet → List Piece
+piecesFor k l = pieces (pieceMost (keyWidth k)) l
+
+module _ (k : ℕ) (l : IdSet) (parts : SetParts k l) where
+  shape-of : Shape false (piecesFor k l)
+  unfolding piecesFor
+  shape-of = pieces-shape (pieceMost (keyWidth k)) l (parts .first)
+
+  items-back : piecePairs (shape-of .first) ++ flat (shape-of .others) ≡ l .items
+  unfolding piecesFor flat
+  items-back = ap flat (sym (shape-of .made)) ∙ flat-pieces (pieceMost (keyWidth k)) l (parts .first)
+
+  names-back : joinNames (namedBy (shape-of .first .qualifier)) (piecesNamed (shape-of .others)) ≡ l .named
+  unfolding piecesFor piecesNamed
+  names-back = ap piecesNamed (sym (shape-of .made)) ∙ pieces-named (keyWidth k) (pieceMost (keyWidth k)) l (parts .first) (parts .pairs) (parts .names)
+
+  -- a start's list and the continuations make the set
+  whole-back : collected (bringsOf (shape-of .first)) (shape-of .others) ≡ l
+  unfolding collected bringsOf
+  whole-back = λ i. record { items = items-back i; named = names-back i }
+
+  start-differs : allDiffer (piecePairs (shape-of .first)) ≡ true
+  start-differs = differ-left (piecePairs (shape-of .first)) (flat (shape-of .others)) (rw items-back (parts .differ))
+
+  module _ (on : Bool) (pre : Content) (low : KeysBelow k pre) where
+    -- all of the fields after the start
+    steps-rest : (post : Content) (sh : Option IdSet)
+        → steps linkage (pre ++ entry k on sh (some (bringsOf (shape-of .first))) ∷ post) (map (saidOf k on) (shape-of .others)) .0
+        ≡ pre ++ entry k on sh (some l) ∷ post
+    unfolding bringsOf
+    steps-rest post sh =
+        steps-more k on pre low post (shape-of .others) sh (bringsOf (shape-of .first)) (shape-of .goes)
+        (rw items-back (parts .short)) (rw items-back (parts .differ))
+        ∙ ap (λ (x : IdSet). pre ++ entry k on sh (some x) ∷ post) whole-back
+
+    -- a set of a new key: it is the open list, and nothing is shown
+    steps-new : length pre < 32 → steps linkage pre (map (saidOf k on) (piecesFor k l)) .0 ≡ pre ++ entry k on none (some l) ∷ []
+    unfolding steps
+    steps-new r =
+        ap (λ (cs : List Piece). steps linkage pre (map (saidOf k on) cs) .0) (shape-of .made)
+        ∙ ap (λ (t : Content). steps linkage t (map (saidOf k on) (shape-of .others)) .0) (step-new k on pre low (shape-of .first) r (shape-of .begins) start-differs)
+        ∙ steps-rest [] none
+
+    -- a set of a key with an open list: that list is shown, and the set is the open list
+    steps-again : (post : Content) (b : Bool) (sh : Option IdSet) (d : IdSet)
+        → steps linkage (pre ++ entry k b sh (some d) ∷ post) (map (saidOf k on) (piecesFor k l)) .0 ≡ pre ++ entry k on (some d) (some l) ∷ post
+    unfolding steps
+    steps-again post b sh d =
+        ap (λ (cs : List Piece). steps linkage (pre ++ entry k b sh (some d) ∷ post) (map (saidOf k on) cs) .0) (shape-of .made)
+        ∙ ap (λ (t : Content). steps linkage t (map (saidOf k on) (shape-of .others)) .0)
+        (step-start k on pre low post (shape-of .first) b sh d (shape-of .begins) start-differs)
+        ∙ steps-rest post (some d)
+
+-- ---- a set's blocks
+
+-- a block in front of a recording
+read-block : (t : Content) (b rest : List ℕ) → length b ≡ 32 → readRecording t (b ++ rest) ≡ readRecording (readBlock t b .left) rest
+unfolding readRecording readBlocks
+read-block t b rest h =
+    let n : length (b ++ rest) / 32 ≡ suc (length rest / 32) = omega (arith, length-append b rest) in
+    ap (λ (x : ℕ). readBlocks x t (b ++ rest)) n
+    ∙ ap (λ (x : List ℕ). readBlocks (length rest / 32) (readBlock t x .left) (drop 32 (b ++ rest))) (take-at b rest 32 h)
+    ∙ ap (λ (x : List ℕ). readBlocks (length rest / 32) (readBlock t b .left) x) (drop-at b rest 32 h)
+
+-- a taken block with one field
+read-taken : (t : Content) (b : List ℕ) (f : Field) → verdict b ≡ taken (f ∷ []) → readBlock t b .left ≡ step linkage t (said f) .0
+unfolding readBlock answerTo steps
+read-taken t b f e = rw e
+
+-- every block of a recording is taken, with one field
+abbrev pub EachTaken : List ℕ → Type 0
+EachTaken bytes = (i : ℕ) → 32 * i < length bytes → (f : Field) × (verdict (take 32 (drop (32 * i) bytes)) ≡ taken (f ∷ []))
+
+taken-first : (b rest : List ℕ) (f : Field) → length b ≡ 32 → verdict b ≡ taken (f ∷ []) → EachTaken rest → EachTaken (b ++ rest)
+taken-first b rest f n e h zero j = (f, ap verdict (take-at b rest 32 n) ∙ e)
+taken-first b rest f n e h (suc i) j =
+    let l : length (b ++ rest) ≡ length b + length rest = length-append b rest in
+    let r : (g : Field) × (verdict (take 32 (drop (32 * i) rest)) ≡ taken (g ∷ [])) = h i (omega arith) in
+    let p : 32 * suc i ≡ length b + 32 * i = omega arith in
+    let d : drop (32 * suc i) (b ++ rest) ≡ drop (32 * i) rest = ap (λ (x : ℕ). drop x (b ++ rest)) p ∙ drop-append-add b rest (32 * i) in
+    (r .0, ap (λ (x : List ℕ). verdict (take 32 x)) d ∙ r .1)
+
+-- a shown set that can be sent: its key is below 65,536 and has an LSN, and it meets the table rules
+pub record Sendable (s : Shown) : Type 0 where
+  pub small : s .key < 65536
+  pub lsn : s .key % 4096 ≡ 0 → ⊥
+  pub right : setMeets (s .key) (s .set) ≡ true
+
+-- pieces of a set that can be sent
+module _ (k named : ℕ) (on : Bool) (small : k < 65536) (lsn : k % 4096 ≡ 0 → ⊥) (none' : k / 16384 % 2 ≡ 1 → named ≡ 0) where
+  read-pieces : (t : Content) (cs : List Piece) (rest : List ℕ) → Every (PieceMeets (keyWidth k) named (pieceMost (keyWidth k))) cs
+      → readRecording t (blocksOf k on cs ++ rest) ≡ readRecording (steps linkage t (map (saidOf k on) cs) .0) rest
+  unfolding blocksOf steps
+  read-pieces t [] rest m = refl
+  read-pieces t (c ∷ cs) rest m =
+      let b : List ℕ = blockOf (figBytes k on c) in
+      ap (λ (x : List ℕ). readRecording t x) (append-assoc b (blocksOf k on cs) rest)
+      ∙ read-block t b (blocksOf k on cs ++ rest) (block-length (figBytes k on c))
+      ∙ ap (λ (x : Content). readRecording x (blocksOf k on cs ++ rest))
+      (read-taken t b (fieldOf k on c) (verdict-back k named c lsn (m .0) none' on) ∙ ap (λ (f : Said linkage). step linkage t f .0) (said-back k on c small))
+      ∙ read-pieces (step linkage t (saidOf k on c) .0) cs rest (m .1)
+
+  -- every block of the pieces is taken
+  taken-pieces : (cs : List Piece) (rest : List ℕ) → Every (PieceMeets (keyWidth k) named (pieceMost (keyWidth k))) cs → EachTaken rest
+      → EachTaken (blocksOf k on cs ++ rest)
+  unfolding blocksOf
+  taken-pieces [] rest m h = h
+  taken-pieces (c ∷ cs) rest m h =
+      let b : List ℕ = blockOf (figBytes k on c) in
+      rw (append-assoc b (blocksOf k on cs) rest)
+      (taken-first b (blocksOf k on cs ++ rest) (fieldOf k on c) (block-length (figBytes k on c)) (verdict-back k named c lsn (m .0) none' on)
+      (taken-pieces cs rest (m .1) h))
+
+blocks-length : (k : ℕ) (on : Bool) (cs : List Piece) → length (blocksOf k on cs) ≡ 32 * length cs
+unfolding blocksOf
+blocks-length k on [] = refl
+blocks-length k on (c ∷ cs) =
+    omega (arith, length-append (blockOf (figBytes k on c)) (blocksOf k on cs), block-length (figBytes k on c), blocks-length k on cs)
+
+blocks-bytes : (k named : ℕ) (on : Bool) (cs : List Piece) → Every (PieceMeets (keyWidth k) named (pieceMost (keyWidth k))) cs → Below 256 (blocksOf k on cs)
+unfolding blocksOf
+blocks-bytes k named on [] m = tt
+blocks-bytes k named on (c ∷ cs) m =
+    every-append (λ (b : ℕ). b < 256) (blockOf (figBytes k on c)) (blocksOf k on cs)
+    (piece-bytes k on c (kind-small named (c .qualifier) (m .0 .kind)) (m .0 .few)) (blocks-bytes k named on cs (m .1))
+
+pieces-sent : (s : Shown) → Sendable s
+    → Every (PieceMeets (keyWidth (s .key)) (s .set .named) (pieceMost (keyWidth (s .key)))) (piecesFor (s .key) (s .set))
+unfolding piecesFor
+pieces-sent s h =
+    pieces-meet (keyWidth (s .key)) (pieceMost (keyWidth (s .key))) (s .set) (omega (arith, most-room (keyWidth (s .key))))
+    (set-parts (s .key) (s .set) (h .right) .pairs)
+
+-- every FIG of a set has 29 bytes at most
+pub set-figs : (s : Shown) → Sendable s → Every (λ (c : Piece). length (figBytes (s .key) (s .on) c) ≤ 29) (piecesFor (s .key) (s .set))
+set-figs s h =
+    every-imp (PieceMeets (keyWidth (s .key)) (s .set .named) (pieceMost (keyWidth (s .key)))) (λ (c : Piece). length (figBytes (s .key) (s .on) c) ≤ 29)
+    (λ c m. fig-length (s .key) (s .on) c (m .few)) (piecesFor (s .key) (s .set)) (pieces-sent s h)
+
+-- a set's blocks are made of bytes
+set-bytes : (s : Shown) → Sendable s → Below 256 (setBlocks s)
+unfolding setBlocks piecesFor
+set-bytes s h = blocks-bytes (s .key) (s .set .named) (s .on) (piecesFor (s .key) (s .set)) (pieces-sent s h)
+
+-- a set's blocks, as its pieces' fields
+read-set : (s : Shown) (t : Content) (rest : List ℕ) → Sendable s
+    → readRecording t (setBlocks s ++ rest) ≡ readRecording (steps linkage t (map (saidOf (s .key) (s .on)) (piecesFor (s .key) (s .set))) .0) rest
+unfolding setBlocks piecesFor
+read-set s t rest h =
+    read-pieces (s .key) (s .set .named) (s .on) (h .small) (h .lsn) (set-parts (s .key) (s .set) (h .right) .noName) t
+    (piecesFor (s .key) (s .set)) rest (pieces-sent s h)
+
+taken-set : (s : Shown) (rest : List ℕ) → Sendable s → EachTaken rest → EachTaken (setBlocks s ++ rest)
+unfolding setBlocks piecesFor
+taken-set s rest h g =
+    taken-pieces (s .key) (s .set .named) (s .on) (h .small) (h .lsn) (set-parts (s .key) (s .set) (h .right) .noName)
+    (piecesFor (s .key) (s .set)) rest (pieces-sent s h) g
+
+-- a set's blocks take 4,096 bytes at most
+pub set-length : (s : Shown) → Sendable s → length (setBlocks s) ≤ 4096
+unfolding setBlocks
+set-length s h =
+    let cs : List Piece = pieces (pieceMost (keyWidth (s .key))) (s .set) in
+    omega (arith, blocks-length (s .key) (s .on) cs, set-count (s .key) (s .set) (h .right))
+
+-- ---- the whole output
+
+-- sets that can be sent, in ascending key order above a number
+abbrev pub InOrder : ℕ → List Shown → Type 0
+InOrder last [] = Unit {0}
+InOrder last (s ∷ ss) = (last < s .key) × Sendable s × InOrder (s .key) ss
+
+order-lower : (m n : ℕ) (ss : List Shown) → m ≤ n → InOrder n ss → InOrder m ss
+order-lower m n [] h g = tt
+order-lower m n (s ∷ ss) h g = (omega (arith, g .0), g .1, g .2)
+
+-- a set as the open list of its key, with nothing shown; and the same with it shown too
+unfoldable pub opened : Shown → Held
+opened s = entry (s .key) (s .on) none (some (s .set))
+
+unfoldable pub again : Shown → Held
+again s = entry (s .key) (s .on) (some (s .set)) (some (s .set))
+
+keys-up : (m n : ℕ) (t : Content) → m ≤ n → KeysBelow m t → KeysBelow n t
+keys-up m n t h g = every-imp (λ (e : Held). e .key < m) (λ (e : Held). e .key < n) (λ e x. omega arith) t g
+
+keys-next : (t : Content) (e : Held) → KeysBelow (e .key) t → KeysBelow (suc (e .key)) (t ++ e ∷ [])
+keys-next t e h =
+    every-append (λ (x : Held). x .key < suc (e .key)) t (e ∷ []) (keys-up (e .key) (suc (e .key)) t (omega arith) h) (omega arith, tt)
+
+-- read once: every set is the open list of its key
+first-pass : (pre : Content) (last : ℕ) (ss : List Shown) (rest : List ℕ) → InOrder last ss → KeysBelow (suc last) pre → length pre + length ss ≤ 32
+    → readRecording pre (allBlocks ss ++ rest) ≡ readRecording (pre ++ map opened ss) rest
+unfolding allBlocks opened entry
+first-pass pre last [] rest o k n = ap (λ (t : Content). readRecording t rest) (sym (append-nil pre))
+first-pass pre last (s ∷ ss) rest o k n =
+    let low : KeysBelow (s .key) pre = keys-up (suc last) (s .key) pre (o .0) k in
+    ap (λ (x : List ℕ). readRecording pre x) (append-assoc (setBlocks s) (allBlocks ss) rest)
+    ∙ read-set s pre (allBlocks ss ++ rest) (o .1)
+    ∙ ap (λ (t : Content). readRecording t (allBlocks ss ++ rest))
+    (steps-new (s .key) (s .set) (set-parts (s .key) (s .set) (o .1 .right)) (s .on) pre low (omega arith))
+    ∙ first-pass (pre ++ opened s ∷ []) (s .key) ss rest (o .2) (keys-next pre (opened s) low) (omega (arith, length-append pre (opened s ∷ [])))
+    ∙ ap (λ (t : Content). readRecording t rest) (append-assoc pre (opened s ∷ []) (map opened ss))
+
+-- read again: every one is shown
+second-pass : (pre : Content) (last : ℕ) (ss : List Shown) (rest : List ℕ) → InOrder last ss → KeysBelow (suc last) pre
+    → readRecording (pre ++ map opened ss) (allBlocks ss ++ rest) ≡ readRecording (pre ++ map again ss) rest
+unfolding allBlocks opened again entry
+second-pass pre last [] rest o k = refl
+second-pass pre last (s ∷ ss) rest o k =
+    let low : KeysBelow (s .key) pre = keys-up (suc last) (s .key) pre (o .0) k in
+    let t : Content = pre ++ opened s ∷ map opened ss in
+    ap (λ (x : List ℕ). readRecording t x) (append-assoc (setBlocks s) (allBlocks ss) rest)
+    ∙ read-set s t (allBlocks ss ++ rest) (o .1)
+    ∙ ap (λ (x : Content). readRecording x (allBlocks ss ++ rest))
+    (steps-again (s .key) (s .set) (set-parts (s .key) (s .set) (o .1 .right)) (s .on) pre low (map opened ss) (s .on) none (s .set)
+    ∙ sym (append-assoc pre (again s ∷ []) (map opened ss)))
+    ∙ second-pass (pre ++ again s ∷ []) (s .key) ss rest (o .2) (keys-next pre (again s) low)
+    ∙ ap (λ (x : Content). readRecording x rest) (append-assoc pre (again s ∷ []) (map again ss))
+
+taken-all : (last : ℕ) (ss : List Shown) → InOrder last ss → EachTaken (allBlocks ss)
+unfolding allBlocks
+taken-all last [] o = λ i h. absurd (omega arith)
+taken-all last (s ∷ ss) o = taken-set s (allBlocks ss) (o .1) (taken-all (s .key) ss (o .2))
+
+all-blocks-length : (last : ℕ) (ss : List Shown) → InOrder last ss → length (allBlocks ss) ≤ 4096 * length ss
+unfolding allBlocks
+all-blocks-length last [] o = omega arith
+all-blocks-length last (s ∷ ss) o =
+    omega (arith, length-append (setBlocks s) (allBlocks ss), set-length s (o .1), all-blocks-length (s .key) ss (o .2))
+
+-- whole blocks
+all-blocks-whole : (ss : List Shown) → length (allBlocks ss) % 32 ≡ 0
+unfolding allBlocks setBlocks
+all-blocks-whole [] = refl
+all-blocks-whole (s ∷ ss) =
+    omega
+    (arith, length-append (setBlocks s) (allBlocks ss), blocks-length (s .key) (s .on) (pieces (pieceMost (keyWidth (s .key))) (s .set)), all-blocks-whole ss)
+
+all-blocks-bytes : (last : ℕ) (ss : List Shown) → InOrder last ss → Below 256 (allBlocks ss)
+unfolding allBlocks
+all-blocks-bytes last [] o = tt
+all-blocks-bytes last (s ∷ ss) o =
+    every-append (λ (b : ℕ). b < 256) (setBlocks s) (allBlocks ss) (set-bytes s (o .1)) (all-blocks-bytes (s .key) ss (o .2))
+
+-- ---- the shown sets of a content
+
+shown-again : (ss : List Shown) → shownSets (map again ss) ≡ ss
+unfolding shownSets showing again entry
+shown-again [] = refl
+shown-again (s ∷ ss) = ap (λ (r : List Shown). s ∷ r) (shown-again ss)
+
+if-there : (k : ℕ) (o : Option IdSet) (l : IdSet) → o ≡ some l → ifThere k o ≡ true → setMeets k l ≡ true
+unfolding ifThere
+if-there k o l e h = rw e at h
+
+sendable : (e : Held) (l : IdSet) → entryMeets e ≡ true → e .shown ≡ some l → Sendable (record { key = e .key; on = e .state; set = l })
+unfolding entryMeets
+sendable e l h g =
+    let a : Bool = ltb (e .key) 65536 in
+    let b : Bool = not (eqb (e .key % 4096) 0) in
+    let c : Bool = ifThere (e .key) (e .shown) in
+    let d : Bool = ifThere (e .key) (e .draft) in
+    let h1 : (a && b && c) ≡ true = and-left (a && b && c) d h in
+    let h2 : (a && b) ≡ true = and-left (a && b) c h1 in
+    record {
+      small = ltb-true (e .key) 65536 (and-left a b h2);
+      lsn = eqb-false (e .key % 4096) 0 (not-true (eqb (e .key % 4096) 0) (and-right a b h2));
+      right = if-there (e .key) (e .shown) l g (and-right (a && b) c h1);
+    }
+
+content-order : (last : ℕ) (t : Content) → ascends last t ≡ true → entriesMeet t ≡ true → InOrder last (shownSets t)
+unfolding ascends entriesMeet shownSets showing
+content-order last [] a m = tt
+content-order last (e ∷ es) a m =
+    let up : last < e .key = ltb-true last (e .key) (and-left (ltb last (e .key)) (ascends (e .key) es) a) in
+    let rest : InOrder (e .key) (shownSets es) =
+    content-order (e .key) es (and-right (ltb last (e .key)) (ascends (e .key) es) a) (and-right (entryMeets e) (entriesMeet es) m) in
+    cases-option (e .shown)
+    (λ g. rw g (order-lower last (e .key) (shownSets es) (omega arith) rest))
+    (λ l g. rw g (up, sendable e l (and-left (entryMeets e) (entriesMeet es) m) g, rest))
+
+shown-count : (t : Content) → length (shownSets t) ≤ length t
+unfolding shownSets showing
+shown-count [] = omega arith
+shown-count (e ∷ es) =
+    let rest : length (shownSets es) ≤ length es = shown-count es in
+    cases-option (e .shown) (λ g. rw g (omega arith)) (λ l g. rw g (omega arith))
+
+-- what the table rules say of a content's shown sets
+shown-order : (t : Content) → meets t ≡ true → InOrder 0 (shownSets t)
+unfolding meets
+shown-order t h =
+    let a : Bool = leb (length t) 32 in
+    let b : Bool = ascends 0 t in
+    let c : Bool = entriesMeet t in
+    content-order 0 t (and-right a b (and-left (a && b) c h)) (and-right (a && b) c h)
+
+shown-few : (t : Content) → meets t ≡ true → length (shownSets t) ≤ 32
+unfolding meets
+shown-few t h =
+    let a : Bool = leb (length t) 32 in
+    let b : Bool = ascends 0 t in
+    let c : Bool = entriesMeet t in
+    omega (arith, shown-count t, leb-true (length t) 32 (and-left a b (and-left (a && b) c h)))
+
+-- ---- the theorems
+
+-- the output in front of a recording, read into the empty content: each shown set is the open list of its key
+air-front : (t : Content) (rest : List ℕ) → meets t ≡ true → readRecording [] (air t ++ rest) ≡ readRecording (map opened (shownSets t)) rest
+unfolding air
+air-front t rest h = first-pass [] 0 (shownSets t) rest (shown-order t h) tt (omega (arith, shown-few t h))
+
+-- read into what that leaves: each is shown too
+air-next : (t : Content) (rest : List ℕ) → meets t ≡ true → readRecording (map opened (shownSets t)) (air t ++ rest) ≡ readRecording (map again (shownSets t)) rest
+unfolding air
+air-next t rest h = second-pass [] 0 (shownSets t) rest (shown-order t h) tt
+
+-- a recording with nothing after it
+read-alone : (t : Content) (bytes : List ℕ) → readRecording t bytes ≡ readRecording t (bytes ++ [])
+read-alone t bytes = ap (λ (x : List ℕ). readRecording t x) (sym (append-nil bytes))
+
+read-nothing : (t : Content) → readRecording t [] ≡ t
+unfolding readRecording readBlocks
+read-nothing t = refl
+
+-- what the output leaves when it is read into the empty content: every shown set as an open list, and nothing shown
+pub air-once : (t : Content) → meets t ≡ true → readRecording [] (air t) ≡ map opened (shownSets t)
+air-once t h = read-alone [] (air t) ∙ air-front t [] h ∙ read-nothing (map opened (shownSets t))
+
+-- what it leaves when it is read twice: every shown set shown, with its on or off, and once more as an open list
+pub air-twice : (t : Content) → meets t ≡ true → readRecording (readRecording [] (air t)) (air t) ≡ map again (shownSets t)
+air-twice t h =
+    ap (λ (x : Content). readRecording x (air t)) (air-once t h)
+    ∙ read-alone (map opened (shownSets t)) (air t) ∙ air-next t [] h ∙ read-nothing (map again (shownSets t))
+
+-- the whole output read twice into the empty content shows the same sets
+pub air-shows : (t : Content) → meets t ≡ true → shownSets (readRecording (readRecording [] (air t)) (air t)) ≡ shownSets t
+air-shows t h = ap shownSets (air-twice t h) ∙ shown-again (shownSets t)
+
+-- and so does a recording of it twice over
+pub air-shows-twice-over : (t : Content) → meets t ≡ true → shownSets (readRecording [] (air t ++ air t)) ≡ shownSets t
+air-shows-twice-over t h =
+    ap shownSets (air-front t (air t) h ∙ ap (λ (x : Content). readRecording x (air t)) (sym (air-once t h))) ∙ air-shows t h
+
+-- every block of it is taken, with one field
+pub air-taken : (t : Content) → meets t ≡ true → EachTaken (air t)
+unfolding air
+air-taken t h = taken-all 0 (shownSets t) (shown-order t h)
+
+-- it is whole blocks, and at most 131,072 bytes
+pub air-whole : (t : Content) → leftOver (air t) ≡ 0
+unfolding air leftOver
+air-whole t = all-blocks-whole (shownSets t)
+
+pub air-length : (t : Content) → meets t ≡ true → length (air t) ≤ 131072
+unfolding air
+air-length t h = omega (arith, all-blocks-length 0 (shownSets t) (shown-order t h), shown-few t h)
+
+-- it is made of bytes
+pub air-bytes : (t : Content) → meets t ≡ true → Below 256 (air t)
+unfolding air
+air-bytes t h = all-blocks-bytes 0 (shownSets t) (shown-order t h)

@@ -1,0 +1,534 @@
+-- The laws of collecting for linkage sets. In this order: the tests of linkage are lawful; the table rules taken apart, entry by
+-- entry and list by list; a field of a taken block brings lists that meet them; so reading blocks of bytes and forgetting keep
+-- the table rules; refused blocks; outcomes; recordings.
+use Prim.Native.Nat.{ℕ, zero, suc, _+_, _-_, _*_, _/_, _%_, _^_, _≤_, _<_, max}
+use native.Mathlib.Omega.{arith}
+use mathlib.Core.Path.{_≡_, refl, sym, _∙_, ap, subst}
+use mathlib.Core.Logic.{_↔_}
+use mathlib.Core.Bool.{Bool, true, false, not, cond, _&&_, _||_}
+use mathlib.Core.List.{List, [], _∷_, _++_, map}
+use mathlib.Core.Option.{Option, none, some}
+use lib.ListN.{length, getD, take, drop, length-append, length-take, length-drop, length-map}
+use lib.Seq.{take-append-le, drop-append-le}
+use lib.Dec.{leb, ltb, eqb}
+use borrow.Author.Tests.{ltb-true, ltb-false, leb-true, leb-false, eqb-true, eqb-false, lt-ltb, le-leb, eq-eqb, ne-eqb}
+use Rattle.rules.specs.declared.Outcome.{Outcome}
+use Rattle.rules.specs.declared.Outcome.the-variants.{Done, NotABlock, CheckFails, WrongFig, WrongField, WrongValue, EmptyStart}
+use Rattle.rules.specs.Block.{Walk, whole, broken, Fig, figs, checkHolds}
+use Rattle.rules.specs.Field.{Field, keyOf, Pair, pair, pairsOf, startPairs, firstKind, namedBy, hasList, isContinuation, width, dab, rds, drm, wrongValue, emptyStart}
+use Rattle.rules.specs.Family.{Family, Listed, Act, start, continuation, noList, Said, Entry, member, addedAll, opening, extended, entryWith, step, steps, closed, dropOpen, forget}
+use Rattle.rules.specs.Collecting.{samePair, joinNames, linkage, IdSet, Held, Content, brings, actOf, said, keyWidth, allDiffer, firstIsDab, kindNamed, pairsMeet, namesMeet, setMeets, ifThere, entryMeets, ascends, entriesMeet, meets, Shown, showing, shownSets}
+use Rattle.rules.specs.Outcomes.{numberOf, Verdict, taken, refused, noBlock, judgeFields, judgeFigs, verdict, Answer, answerTo, readBlock, readBlocks, readRecording, leftOver, allFields, some?}
+use Rattle.rules.specs.Demand3.{heldKeys}
+use Rattle.rules.proofs.Basics.{cases-bool, true-false, and-left, and-right, and-both, and-three, and-four, and-five, or-left, or-right, or-cases, not-true, true-not, cond-cases, cond-both, eqb-self, ltb-self, ltb-trans, ltb-or, Every, every-imp, every-both, every-map, every-from, every-take, every-drop, Within}
+use Rattle.rules.proofs.FamilyLaws.{Lawful, Keeps, After, Ascends, Different, keys-every, Lists, Brings, keeps-key, every-steps, every-forget, every-drop-open, room-steps, length-drop-open, length-forget, ascends-steps, ascends-drop-open, ascends-forget, after-through, different-addedAll, addedAll-first, opening-first, length-addedAll, every-addedAll, lists-keep, lists-steps, lists-closed, steps-notes}
+use Rattle.rules.proofs.Taken.{Bytes, FieldBits, GoodField, taken-good, taken-few}
+
+-- ---- the tests of linkage
+
+pub pair-is : (p q : Pair) → samePair p q ≡ true → p ≡ q
+unfolding samePair
+pair-is p q h =
+    let k = eqb-true (p .kind) (q .kind) (and-left (eqb (p .kind) (q .kind)) (eqb (p .number) (q .number)) h) in
+    let n = eqb-true (p .number) (q .number) (and-right (eqb (p .kind) (q .kind)) (eqb (p .number) (q .number)) h) in
+    λ i. record { kind = k i; number = n i }
+
+pub pair-self : (p : Pair) → samePair p p ≡ true
+unfolding samePair
+pair-self p = and-both (eqb (p .kind) (p .kind)) (eqb (p .number) (p .number)) (eqb-self (p .kind)) (eqb-self (p .number))
+
+pub lawful : Lawful linkage
+lawful =
+    record {
+      same-is = eqb-true; same-self = eqb-self; before-self = ltb-self; before-trans = ltb-trans; before-or = ltb-or;
+      item-is = pair-is; item-self = pair-self }
+
+-- ---- the table rules taken apart
+
+-- a pair that meets the rules of its list: its number within a width, its kind among the named
+abbrev pub PairMeets : ℕ → ℕ → Pair → Type 0
+PairMeets w named p = (p .number < 256 ^ w) × (kindNamed named (p .kind) ≡ true)
+
+pub pairs-meet : (w named : ℕ) (ps : List Pair) → (pairsMeet w named ps ≡ true) ↔ Every (PairMeets w named) ps
+unfolding pairsMeet
+pairs-meet w named [] = (λ h. tt, λ h. refl)
+pairs-meet w named (p ∷ ps) =
+    let a = and-three (ltb (p .number) (256 ^ w)) (kindNamed named (p .kind)) (pairsMeet w named ps) in
+    (λ h. let t = a .0 h in ((ltb-true (p .number) (256 ^ w) (t .0), t .1), pairs-meet w named ps .0 (t .2)),
+    λ h. a .1 (lt-ltb (p .number) (256 ^ w) (h .0 .0), h .0 .1, pairs-meet w named ps .1 (h .1)))
+
+pub all-differ : (ps : List Pair) → (allDiffer ps ≡ true) ↔ Different linkage ps
+unfolding allDiffer
+all-differ [] = (λ h. tt, λ h. refl)
+all-differ (p ∷ ps) =
+    (λ h. (not-true (member linkage p ps) (and-left (not (member linkage p ps)) (allDiffer ps) h),
+      all-differ ps .0 (and-right (not (member linkage p ps)) (allDiffer ps) h)),
+    λ h. and-both (not (member linkage p ps)) (allDiffer ps) (true-not (member linkage p ps) (h .0)) (all-differ ps .1 (h .1)))
+
+-- a set that meets the rules under a key
+pub record SetMeets (k : ℕ) (l : IdSet) : Type 0 where
+  pub short : length (l .items) ≤ 128
+  pub first : firstIsDab (l .items) ≡ true
+  pub differ : Different linkage (l .items)
+  pub pairs : Every (PairMeets (keyWidth k) (l .named)) (l .items)
+  pub names : namesMeet k (l .named) ≡ true
+
+pub set-meets : (k : ℕ) (l : IdSet) → (setMeets k l ≡ true) ↔ SetMeets k l
+unfolding setMeets
+set-meets k l =
+    let a = and-five (leb (length (l .items)) 128) (firstIsDab (l .items)) (allDiffer (l .items))
+        (pairsMeet (keyWidth k) (l .named) (l .items)) (namesMeet k (l .named)) in
+    (λ h. let t = a .0 h in
+      record {
+        short = leb-true (length (l .items)) 128 (t .0); first = t .1; differ = all-differ (l .items) .0 (t .2);
+        pairs = pairs-meet (keyWidth k) (l .named) (l .items) .0 (t .3); names = t .4 },
+    λ m. a .1
+      (le-leb (length (l .items)) 128 (m .short), m .first, all-differ (l .items) .1 (m .differ),
+      pairs-meet (keyWidth k) (l .named) (l .items) .1 (m .pairs), m .names))
+
+pub if-there : (k : ℕ) (o : Option IdSet) → (ifThere k o ≡ true) ↔ Within (SetMeets k) o
+unfolding ifThere
+if-there k none = (λ h. tt, λ h. refl)
+if-there k (some l) = set-meets k l
+
+-- a key below 65,536 with LSN not 0
+abbrev pub KeyMeets : ℕ → Type 0
+KeyMeets k = (k < 65536) × (k % 4096 ≡ 0 → ⊥)
+
+-- an entry: its key and its lists
+abbrev pub EntryMeets : Held → Type 0
+EntryMeets e = KeyMeets (e .key) × Lists linkage SetMeets e
+
+pub entry-meets : (e : Held) → (entryMeets e ≡ true) ↔ EntryMeets e
+unfolding entryMeets
+entry-meets e =
+    let a = and-four (ltb (e .key) 65536) (not (eqb (e .key % 4096) 0)) (ifThere (e .key) (e .shown)) (ifThere (e .key) (e .draft)) in
+    (λ h. let t = a .0 h in
+      ((ltb-true (e .key) 65536 (t .0), eqb-false (e .key % 4096) 0 (not-true (eqb (e .key % 4096) 0) (t .1))),
+      (if-there (e .key) (e .shown) .0 (t .2), if-there (e .key) (e .draft) .0 (t .3))),
+    λ m. a .1
+      (lt-ltb (e .key) 65536 (m .0 .0), true-not (eqb (e .key % 4096) 0) (ne-eqb (e .key % 4096) 0 (m .0 .1)),
+      if-there (e .key) (e .shown) .1 (m .1 .0), if-there (e .key) (e .draft) .1 (m .1 .1)))
+
+pub entries-meet : (t : Content) → (entriesMeet t ≡ true) ↔ Every EntryMeets t
+unfolding entriesMeet
+entries-meet [] = (λ h. tt, λ h. refl)
+entries-meet (e ∷ es) =
+    (λ h. (entry-meets e .0 (and-left (entryMeets e) (entriesMeet es) h), entries-meet es .0 (and-right (entryMeets e) (entriesMeet es) h)),
+    λ m. and-both (entryMeets e) (entriesMeet es) (entry-meets e .1 (m .0)) (entries-meet es .1 (m .1)))
+
+pub ascends-keys : (k : ℕ) (t : Content) → (ascends k t ≡ true) ↔ (After linkage k (heldKeys linkage t) × Ascends linkage (heldKeys linkage t))
+unfolding ascends heldKeys
+ascends-keys k [] = (λ h. (tt, tt), λ h. refl)
+ascends-keys k (e ∷ es) =
+    (λ h.
+      let b = and-left (ltb k (e .key)) (ascends (e .key) es) h in
+      let r = ascends-keys (e .key) es .0 (and-right (ltb k (e .key)) (ascends (e .key) es) h) in
+      ((b, after-through linkage lawful k (e .key) (heldKeys linkage es) b (r .0)), r),
+    λ m. and-both (ltb k (e .key)) (ascends (e .key) es) (m .0 .0) (ascends-keys (e .key) es .1 (m .1)))
+
+pub key-some : (k : ℕ) → KeyMeets k → 0 < k
+key-some k h = cases-bool (ltb 0 k) (ltb-true 0 k) (λ z. absurd (h .1 (omega (arith, ltb-false 0 k z))))
+
+-- a table that meets the rules
+pub record Meets (t : Content) : Type 0 where
+  pub few : length t ≤ 32
+  pub ascend : Ascends linkage (heldKeys linkage t)
+  pub entries : Every EntryMeets t
+
+pub table-meets : (t : Content) → (meets t ≡ true) ↔ Meets t
+unfolding meets
+table-meets t =
+    let a = and-three (leb (length t) 32) (ascends 0 t) (entriesMeet t) in
+    (λ h. let r = a .0 h in
+      record { few = leb-true (length t) 32 (r .0); ascend = ascends-keys 0 t .0 (r .1) .1; entries = entries-meet t .0 (r .2) },
+    λ m. a .1
+      (le-leb (length t) 32 (m .few),
+      ascends-keys 0 t .1
+        (keys-every linkage (λ k. ltb 0 k ≡ true) t
+          (every-imp EntryMeets (λ e. ltb 0 (e .key) ≡ true) (λ e h. lt-ltb 0 (e .key) (key-some (e .key) (h .0))) t (m .entries)),
+        m .ascend),
+      entries-meet t .1 (m .entries)))
+
+pub meets-nil : meets [] ≡ true
+unfolding meets ascends entriesMeet
+meets-nil = refl
+
+-- ---- names of two lists together
+
+pub join-below : (a b : ℕ) → a < 4 → b < 4 → joinNames a b < 4
+unfolding joinNames
+join-below a b p q = omega arith
+
+pub join-none : (a b : ℕ) → a ≡ 0 → b ≡ 0 → joinNames a b ≡ 0
+unfolding joinNames
+join-none a b p q = omega arith
+
+pub join-low : (a b : ℕ) → a < 4 → b < 4 → joinNames a b % 2 ≡ max (a % 2) (b % 2)
+unfolding joinNames
+join-low a b p q = omega arith
+
+pub join-high : (a b : ℕ) → a < 4 → b < 4 → joinNames a b / 2 ≡ max (a / 2) (b / 2)
+unfolding joinNames
+join-high a b p q = omega arith
+
+-- a kind that one of them names
+pub named-through : (a c k : ℕ) → (a % 2 ≡ 1 → c % 2 ≡ 1) → (a / 2 ≡ 1 → c / 2 ≡ 1) → kindNamed a k ≡ true → kindNamed c k ≡ true
+unfolding kindNamed
+named-through a c k low high h =
+    or-cases (eqb k dab || (eqb k rds && eqb (a % 2) 1)) (eqb k drm && eqb (a / 2) 1) h
+    (λ l. or-cases (eqb k dab) (eqb k rds && eqb (a % 2) 1) l
+      (λ z. or-left (eqb k dab || (eqb k rds && eqb (c % 2) 1)) (eqb k drm && eqb (c / 2) 1) (or-left (eqb k dab) (eqb k rds && eqb (c % 2) 1) z))
+      (λ r. or-left (eqb k dab || (eqb k rds && eqb (c % 2) 1)) (eqb k drm && eqb (c / 2) 1)
+        (or-right (eqb k dab) (eqb k rds && eqb (c % 2) 1)
+        (and-both (eqb k rds) (eqb (c % 2) 1) (and-left (eqb k rds) (eqb (a % 2) 1) r)
+        (eq-eqb (c % 2) 1 (low (eqb-true (a % 2) 1 (and-right (eqb k rds) (eqb (a % 2) 1) r))))))))
+    (λ d. or-right (eqb k dab || (eqb k rds && eqb (c % 2) 1)) (eqb k drm && eqb (c / 2) 1)
+      (and-both (eqb k drm) (eqb (c / 2) 1) (and-left (eqb k drm) (eqb (a / 2) 1) d)
+      (eq-eqb (c / 2) 1 (high (eqb-true (a / 2) 1 (and-right (eqb k drm) (eqb (a / 2) 1) d))))))
+
+pub named-left : (a b k : ℕ) → a < 4 → b < 4 → kindNamed a k ≡ true → kindNamed (joinNames a b) k ≡ true
+named-left a b k p q = named-through a (joinNames a b) k (λ h. omega (arith, join-low a b p q)) (λ h. omega (arith, join-high a b p q))
+
+pub named-right : (a b k : ℕ) → a < 4 → b < 4 → kindNamed b k ≡ true → kindNamed (joinNames a b) k ≡ true
+named-right a b k p q = named-through b (joinNames a b) k (λ h. omega (arith, join-low a b p q)) (λ h. omega (arith, join-high a b p q))
+
+-- a DAB service is always among the named, and a kind among those that it names itself
+pub dab-named : (n : ℕ) → kindNamed n 0 ≡ true
+unfolding kindNamed
+dab-named n = refl
+
+pub own-named : (q : ℕ) → q < 4 → (q ≡ 2 → ⊥) → kindNamed (namedBy q) q ≡ true
+unfolding kindNamed namedBy
+own-named zero h r = refl
+own-named (suc zero) h r = refl
+own-named (suc (suc zero)) h r = absurd (r refl)
+own-named (suc (suc (suc zero))) h r = refl
+own-named (suc (suc (suc (suc n)))) h r = absurd (omega arith)
+
+pub namedBy-below : (q : ℕ) → namedBy q < 4
+unfolding namedBy
+namedBy-below q =
+    cond-both (λ (n : ℕ). n < 4) (eqb q rds) 1 (cond (eqb q drm) 2 0) (omega arith)
+    (cond-both (λ (n : ℕ). n < 4) (eqb q drm) 2 0 (omega arith) (omega arith))
+
+-- the names that a key allows
+pub names-below : (k n : ℕ) → namesMeet k n ≡ true → n < 4
+unfolding namesMeet
+names-below k n =
+    cond-both (λ (b : Bool). b ≡ true → n < 4) (eqb (k / 16384 % 2) 1) (eqb n 0) (ltb n 4)
+    (λ h. omega (arith, eqb-true n 0 h)) (λ h. ltb-true n 4 h)
+
+pub names-join : (k a b : ℕ) → namesMeet k a ≡ true → namesMeet k b ≡ true → namesMeet k (joinNames a b) ≡ true
+unfolding namesMeet
+names-join k a b =
+    cases-bool (eqb (k / 16384 % 2) 1)
+    (λ d. rw d (λ p q. eq-eqb (joinNames a b) 0 (join-none a b (eqb-true a 0 p) (eqb-true b 0 q))))
+    (λ d. rw d (λ p q. lt-ltb (joinNames a b) 4 (join-below a b (ltb-true a 4 p) (ltb-true b 4 q))))
+
+pub names-field : (k q : ℕ) → (k / 16384 % 2 ≡ 1 → q ≡ 0) → namesMeet k (namedBy q) ≡ true
+unfolding namesMeet
+names-field k q h =
+    cond-cases (λ (b : Bool). b ≡ true) (eqb (k / 16384 % 2) 1) (eqb (namedBy q) 0) (ltb (namedBy q) 4)
+    (λ d. rw (h (eqb-true (k / 16384 % 2) 1 d)) (unfold namedBy in refl))
+    (λ d. lt-ltb (namedBy q) 4 (namedBy-below q))
+
+-- ---- what a field of a taken block brings
+
+-- its key
+pub field-key : (f : Field) → GoodField f → KeyMeets (keyOf f)
+unfolding keyOf
+field-key f g =
+    let b = g .bits in
+    (omega (arith, b .oe, b .pd, b .hard, b .ils, b .lsn), λ z. g .lsn (omega (arith, b .lsn)))
+
+pub key-pd : (f : Field) → FieldBits f → keyOf f / 16384 % 2 ≡ f .pd
+unfolding keyOf
+key-pd f b = omega (arith, b .oe, b .pd, b .hard, b .ils, b .lsn)
+
+pub key-ils : (f : Field) → FieldBits f → keyOf f / 4096 % 2 ≡ f .ils
+unfolding keyOf
+key-ils f b = omega (arith, b .oe, b .pd, b .hard, b .ils, b .lsn)
+
+pub key-width : (f : Field) → FieldBits f → keyWidth (keyOf f) ≡ width (f .pd) (f .ils)
+unfolding keyWidth
+key-width f b = rw (key-pd f b) (rw (key-ils f b))
+
+-- its names
+pub field-names : (f : Field) → GoodField f → namesMeet (keyOf f) (namedBy (f .qualifier)) ≡ true
+field-names f g = names-field (keyOf f) (f .qualifier) (λ h. g .data-dab (sym (key-pd f (g .bits)) ∙ h))
+
+-- its pairs
+pub kind-pairs : (w n k : ℕ) → kindNamed n k ≡ true → (ns : List ℕ) → Every (λ x. x < 256 ^ w) ns → Every (PairMeets w n) (map (pair k) ns)
+unfolding pair
+kind-pairs w n k h ns b =
+    every-map (PairMeets w n) (pair k) ns (every-imp (λ x. x < 256 ^ w) (λ x. PairMeets w n (pair k x)) (λ x s. (s, h)) ns b)
+
+pub start-pairs : (w n k q : ℕ) → kindNamed n k ≡ true → kindNamed n q ≡ true → (ns : List ℕ) → Every (λ x. x < 256 ^ w) ns
+    → Every (PairMeets w n) (startPairs k q ns)
+unfolding startPairs pair
+start-pairs w n k q h i [] b = tt
+start-pairs w n k q h i (x ∷ ns) b = ((b .0, h), kind-pairs w n q i ns (b .1))
+
+pub field-pairs : (f : Field) → GoodField f → Every (PairMeets (keyWidth (keyOf f)) (namedBy (f .qualifier))) (pairsOf f)
+unfolding pairsOf firstKind
+field-pairs f g =
+    let b = g .bits in
+    let q = own-named (f .qualifier) (b .qualifier) (g .reserved) in
+    rw (key-width f b)
+    (cond-both (Every (PairMeets (width (f .pd) (f .ils)) (namedBy (f .qualifier)))) (isContinuation f) _ _
+      (kind-pairs (width (f .pd) (f .ils)) (namedBy (f .qualifier)) (f .qualifier) q (f .numbers) (b .within))
+      (start-pairs (width (f .pd) (f .ils)) (namedBy (f .qualifier)) 0 (f .qualifier) (dab-named (namedBy (f .qualifier))) q (f .numbers) (b .within)))
+
+pub length-start-pairs : (k q : ℕ) (ns : List ℕ) → length (startPairs k q ns) ≡ length ns
+unfolding startPairs
+length-start-pairs k q [] = refl
+length-start-pairs k q (n ∷ ns) = ap suc (length-map ns (pair q))
+
+pub length-pairs : (f : Field) → length (pairsOf f) ≡ length (f .numbers)
+unfolding pairsOf
+length-pairs f =
+    cond-both (λ (ps : List Pair). length ps ≡ length (f .numbers)) (isContinuation f) _ _
+    (length-map (f .numbers) (pair (f .qualifier))) (length-start-pairs (firstKind f) (f .qualifier) (f .numbers))
+
+-- the first of a start is a DAB service, and stays the first
+pub start-first : (q : ℕ) (ns : List ℕ) → 1 ≤ length ns → firstIsDab (addedAll linkage [] (startPairs 0 q ns)) ≡ true
+unfolding startPairs pair firstIsDab
+start-first q [] h = absurd (omega arith)
+start-first q (n ∷ ns) h =
+    let o = opening-first linkage (pair 0 n) (map (pair q) ns) in
+    rw (o .1) refl
+
+pub added-first : (ps qs : List Pair) → firstIsDab ps ≡ true → firstIsDab (addedAll linkage ps qs) ≡ true
+unfolding firstIsDab
+added-first [] qs h = true-false h refl
+added-first (p ∷ ps) qs h = let o = addedAll-first linkage p ps qs in rw (o .1) h
+
+pub field-first : (f : Field) → GoodField f → hasList f ≡ true → isContinuation f ≡ false → firstIsDab (addedAll linkage [] (pairsOf f)) ≡ true
+unfolding pairsOf firstKind
+field-first f g h c = rw c (start-first (f .qualifier) (f .numbers) (g .start h c))
+
+-- the list that a start opens
+pub start-meets : (f : Field) → GoodField f → hasList f ≡ true → isContinuation f ≡ false → SetMeets (keyOf f) (opening linkage (brings f))
+unfolding opening brings
+start-meets f g h c =
+    record {
+      short = omega (arith, length-addedAll linkage [] (pairsOf f), length-pairs f, g .bits .few);
+      first = field-first f g h c;
+      differ = different-addedAll linkage lawful [] (pairsOf f) tt;
+      pairs = every-addedAll linkage (PairMeets (keyWidth (keyOf f)) (namedBy (f .qualifier))) [] (pairsOf f) tt (field-pairs f g);
+      names = field-names f g }
+
+-- a list to which a continuation is added
+pub continued-meets : (f : Field) (d : IdSet) → GoodField f → SetMeets (keyOf f) d → length (extended linkage d (brings f) .items) ≤ 128
+    → SetMeets (keyOf f) (extended linkage d (brings f))
+unfolding extended brings
+continued-meets f d g m l =
+    let below = names-below (keyOf f) (d .named) (m .names) in
+    let named = namedBy (f .qualifier) in
+    let w = keyWidth (keyOf f) in
+    let wide = PairMeets w (joinNames (d .named) named) in
+    record {
+      short = l;
+      first = added-first (d .items) (pairsOf f) (m .first);
+      differ = different-addedAll linkage lawful (d .items) (pairsOf f) (m .differ);
+      pairs =
+        every-addedAll linkage wide (d .items) (pairsOf f)
+        (every-imp (PairMeets w (d .named)) wide (λ p h. (h .0, named-left (d .named) named (p .kind) below (namedBy-below (f .qualifier)) (h .1))) (d .items) (m .pairs))
+        (every-imp (PairMeets w named) wide (λ p h. (h .0, named-right (d .named) named (p .kind) below (namedBy-below (f .qualifier)) (h .1))) (pairsOf f) (field-pairs f g));
+      names = names-join (keyOf f) (d .named) named (m .names) (field-names f g) }
+
+pub field-brings : (f : Field) → GoodField f → Brings linkage SetMeets (keyOf f) (actOf f)
+unfolding actOf
+field-brings f g =
+    cond-cases (Brings linkage SetMeets (keyOf f)) (hasList f) _ noList
+    (λ h. cond-cases (Brings linkage SetMeets (keyOf f)) (isContinuation f) (continuation (brings f)) (start (brings f))
+      (λ c d m l. continued-meets f d g m l)
+      (λ c. start-meets f g h c))
+    (λ h. tt)
+
+-- ---- the table rules are kept
+
+pub meets-steps : (t : Content) (fs : List Field) → Every GoodField fs → Meets t → Meets (steps linkage t (map said fs) .0)
+unfolding said
+meets-steps t fs g m =
+    record {
+      few = room-steps linkage t (map said fs) (m .few);
+      ascend = ascends-steps linkage lawful t (map said fs) (m .ascend);
+      entries =
+        every-both (λ e. KeyMeets (e .key)) (Lists linkage SetMeets) EntryMeets (λ e k l. (k, l)) (steps linkage t (map said fs) .0)
+        (every-steps linkage lawful (λ e. KeyMeets (e .key)) t (map said fs)
+          (every-map (Keeps linkage (λ e. KeyMeets (e .key))) said fs
+            (every-imp GoodField (λ f. Keeps linkage (λ e. KeyMeets (e .key)) (said f)) (λ f g. keeps-key linkage KeyMeets (said f) (field-key f g)) fs g))
+          (every-imp EntryMeets (λ e. KeyMeets (e .key)) (λ e h. h .0) t (m .entries)))
+        (lists-steps linkage lawful SetMeets t (map said fs)
+          (every-map (λ f. Brings linkage SetMeets (f .key) (f .act)) said fs
+            (every-imp GoodField (λ f. Brings linkage SetMeets (keyOf f) (actOf f)) field-brings fs g))
+          (every-imp EntryMeets (Lists linkage SetMeets) (λ e h. h .1) t (m .entries))) }
+
+pub meets-drop-open : (t : Content) → Meets t → Meets (dropOpen linkage t)
+unfolding closed entryWith
+meets-drop-open t m =
+    record {
+      few = rw (length-drop-open linkage t) (m .few);
+      ascend = ascends-drop-open linkage lawful t (m .ascend);
+      entries = every-drop-open linkage EntryMeets t (λ e h. (h .0, lists-closed linkage SetMeets e (h .1))) (m .entries) }
+
+pub meets-forget : (k : ℕ) (t : Content) → Meets t → Meets (forget linkage k t)
+meets-forget k t m =
+    record {
+      few = omega (arith, length-forget linkage k t, m .few);
+      ascend = ascends-forget linkage lawful k t (m .ascend);
+      entries = every-forget linkage EntryMeets k t (m .entries) }
+
+-- ---- reading a block
+
+pub cases-verdict {ℓ} : {C : Type ℓ} (v : Verdict) → ((fs : List Field) → v ≡ taken fs → C) → ((o : Outcome) → v ≡ refused o → C)
+    → (v ≡ noBlock → C) → C
+cases-verdict (taken fs) t r n = t fs refl
+cases-verdict (refused o) t r n = r o refl
+cases-verdict noBlock t r n = n refl
+
+pub answer-taken : (t : Content) (fib : List ℕ) (fs : List Field) → verdict fib ≡ taken fs
+    → readBlock t fib ≡ record { outcome = Done; notes = steps linkage t (map said fs) .1; left = steps linkage t (map said fs) .0 }
+unfolding readBlock answerTo
+answer-taken t fib fs e = rw e
+
+pub answer-refused : (t : Content) (fib : List ℕ) (o : Outcome) → verdict fib ≡ refused o
+    → readBlock t fib ≡ record { outcome = o; notes = []; left = dropOpen linkage t }
+unfolding readBlock answerTo
+answer-refused t fib o e = rw e
+
+pub answer-none : (t : Content) (fib : List ℕ) → verdict fib ≡ noBlock → readBlock t fib ≡ record { outcome = NotABlock; notes = []; left = t }
+unfolding readBlock answerTo
+answer-none t fib e = rw e
+
+-- bytes by their places, and as a list
+pub bytes-list : (fib : List ℕ) → ((i : ℕ) → getD fib i 0 < 256) → Bytes fib
+bytes-list fib h = every-from (λ b. b < 256) 0 fib h
+
+pub meets-block : (t : Content) (fib : List ℕ) → Bytes fib → Meets t → Meets (readBlock t fib .left)
+meets-block t fib b m =
+    cases-verdict (verdict fib)
+    (λ fs e. subst (λ (a : Answer). Meets (a .left)) (sym (answer-taken t fib fs e)) (meets-steps t fs (taken-good fib fs b e) m))
+    (λ o e. subst (λ (a : Answer). Meets (a .left)) (sym (answer-refused t fib o e)) (meets-drop-open t m))
+    (λ e. subst (λ (a : Answer). Meets (a .left)) (sym (answer-none t fib e)) m)
+
+-- reading a block of bytes keeps the table rules
+pub block-keeps : (t : Content) (fib : List ℕ) → ((i : ℕ) → getD fib i 0 < 256) → meets t ≡ true → meets (readBlock t fib .left) ≡ true
+block-keeps t fib b h = table-meets (readBlock t fib .left) .1 (meets-block t fib (bytes-list fib b) (table-meets t .0 h))
+
+-- and so does forgetting
+pub forget-keeps : (k : ℕ) (t : Content) → meets t ≡ true → meets (forget linkage k t) ≡ true
+forget-keeps k t h = table-meets (forget linkage k t) .1 (meets-forget k t (table-meets t .0 h))
+
+-- at most 14 notes
+pub notes-few : (t : Content) (fib : List ℕ) → length (readBlock t fib .notes) ≤ 14
+notes-few t fib =
+    cases-verdict (verdict fib)
+    (λ fs e. subst (λ (a : Answer). length (a .notes) ≤ 14) (sym (answer-taken t fib fs e))
+      (omega (arith, steps-notes linkage t (map said fs), length-map fs said, taken-few fib fs e)))
+    (λ o e. subst (λ (a : Answer). length (a .notes) ≤ 14) (sym (answer-refused t fib o e)) (omega arith))
+    (λ e. subst (λ (a : Answer). length (a .notes) ≤ 14) (sym (answer-none t fib e)) (omega arith))
+
+-- one note for each field of a taken block
+pub notes-fields : (t : Content) (fib : List ℕ) (fs : List Field) → verdict fib ≡ taken fs → length (readBlock t fib .notes) ≡ length fs
+notes-fields t fib fs e = rw (answer-taken t fib fs e) (steps-notes linkage t (map said fs) ∙ length-map fs said)
+
+-- ---- refused blocks
+
+-- dropping open lists leaves what is shown, the held keys and their on or off
+pub showing-closed : (e : Held) (o : Option IdSet) (xs ys : List Shown) → xs ≡ ys → showing (closed linkage e) o xs ≡ showing e o ys
+unfolding showing closed entryWith
+showing-closed e none xs ys h = h
+showing-closed e (some l) xs ys h = ap (_∷_ (record { key = e .key; on = e .state; set = l })) h
+
+pub shown-drop-open : (t : Content) → shownSets (dropOpen linkage t) ≡ shownSets t
+unfolding shownSets dropOpen closed entryWith
+shown-drop-open [] = refl
+shown-drop-open (e ∷ es) = showing-closed e (e .shown) (shownSets (dropOpen linkage es)) (shownSets es) (shown-drop-open es)
+
+-- the outcomes of a block of full length that is not taken: 2 to 6
+abbrev pub Refusal : Verdict → Type 0
+Refusal (taken fs) = Unit {0}
+Refusal (refused o) = (2 ≤ numberOf o) × (numberOf o ≤ 6)
+Refusal noBlock = ⊥
+
+pub fields-refusal : (w : Walk Field) → Refusal (judgeFields w)
+unfolding judgeFields numberOf
+fields-refusal (broken p) = (omega arith, omega arith)
+fields-refusal (whole fs) =
+    cond-both Refusal (some? wrongValue fs) _ _ (omega arith, omega arith) (cond-both Refusal (some? emptyStart fs) _ _ (omega arith, omega arith) tt)
+
+pub figs-refusal : (w : Walk Fig) → Refusal (judgeFigs w)
+unfolding judgeFigs numberOf
+figs-refusal (broken p) = (omega arith, omega arith)
+figs-refusal (whole gs) = fields-refusal (allFields gs)
+
+pub full-refusal : (fib : List ℕ) → length fib ≡ 32 → Refusal (verdict fib)
+unfolding verdict numberOf
+full-refusal fib l =
+    rw (eq-eqb (length fib) 32 l) (cond-both Refusal (checkHolds fib) _ _ (figs-refusal (figs fib)) (omega arith, omega arith))
+
+-- a block of full length that is not taken drops the open lists and does nothing else
+pub record Refused (t : Content) (a : Answer) : Type 0 where
+  pub notes : a .notes ≡ []
+  pub left : a .left ≡ dropOpen linkage t
+  pub shown : shownSets (a .left) ≡ shownSets t
+
+pub refused-leaves : (t : Content) (fib : List ℕ) → length fib ≡ 32 → (readBlock t fib .outcome ≡ Done → ⊥) → Refused t (readBlock t fib)
+refused-leaves t fib l d =
+    cases-verdict (verdict fib)
+    (λ fs e. absurd (d (ap (λ (a : Answer). a .outcome) (answer-taken t fib fs e))))
+    (λ o e. subst (Refused t) (sym (answer-refused t fib o e)) (record { notes = refl; left = refl; shown = shown-drop-open t }))
+    (λ e. absurd (subst Refusal e (full-refusal fib l)))
+
+-- what has not 32 bytes is no block, and nothing changes
+pub no-block : (t : Content) (fib : List ℕ) → (length fib ≡ 32 → ⊥) → readBlock t fib ≡ record { outcome = NotABlock; notes = []; left = t }
+no-block t fib h = answer-none t fib (unfold verdict in rw (ne-eqb (length fib) 32 h))
+
+-- every outcome of reading a block is one of 0 to 6
+pub outcome-low : (t : Content) (fib : List ℕ) → numberOf (readBlock t fib .outcome) ≤ 6
+unfolding numberOf
+outcome-low t fib =
+    cases-bool (eqb (length fib) 32)
+    (λ l. cases-verdict (verdict fib)
+      (λ fs e. subst (λ (a : Answer). numberOf (a .outcome) ≤ 6) (sym (answer-taken t fib fs e)) (omega arith))
+      (λ o e. subst (λ (a : Answer). numberOf (a .outcome) ≤ 6) (sym (answer-refused t fib o e))
+        (subst Refusal e (full-refusal fib (eqb-true (length fib) 32 l)) .1))
+      (λ e. subst (λ (a : Answer). numberOf (a .outcome) ≤ 6) (sym (answer-none t fib e)) (omega arith)))
+    (λ l. subst (λ (a : Answer). numberOf (a .outcome) ≤ 6) (sym (no-block t fib (eqb-false (length fib) 32 l))) (omega arith))
+
+-- ---- recordings
+
+pub meets-blocks : (n : ℕ) (t : Content) (bytes : List ℕ) → Bytes bytes → Meets t → Meets (readBlocks n t bytes)
+unfolding readBlocks
+meets-blocks zero t bytes b m = m
+meets-blocks (suc n) t bytes b m =
+    meets-blocks n (readBlock t (take 32 bytes) .left) (drop 32 bytes) (every-drop (λ b. b < 256) 32 bytes b)
+    (meets-block t (take 32 bytes) (every-take (λ b. b < 256) 32 bytes b) m)
+
+pub recording-keeps : (t : Content) (bytes : List ℕ) → ((i : ℕ) → getD bytes i 0 < 256) → meets t ≡ true → meets (readRecording t bytes) ≡ true
+unfolding readRecording
+recording-keeps t bytes b h =
+    table-meets (readBlocks (length bytes / 32) t bytes) .1 (meets-blocks (length bytes / 32) t bytes (bytes-list bytes b) (table-meets t .0 h))
+
+-- whole blocks first, then the rest
+pub blocks-append : (n m k : ℕ) (t : Content) (a b : List ℕ) → n ≡ m + k → length a ≡ 32 * m
+    → readBlocks n t (a ++ b) ≡ readBlocks k (readBlocks m t a) b
+unfolding readBlocks
+blocks-append n zero k t [] b e l = let q : n ≡ k = omega arith in ap (λ (i : ℕ). readBlocks i t b) q
+blocks-append n zero k t (x ∷ a) b e l = absurd (omega arith)
+blocks-append zero (suc m) k t a b e l = absurd (omega arith)
+blocks-append (suc n) (suc m) k t a b e l =
+    rw (take-append-le 32 a b (omega arith)) (rw (drop-append-le 32 a b (omega arith))
+    (blocks-append n m k (readBlock t (take 32 a) .left) (drop 32 a) b (omega arith) (omega (arith, length-drop 32 a))))
+
+pub recording-append : (t : Content) (a b : List ℕ) → length a % 32 ≡ 0 → readRecording t (a ++ b) ≡ readRecording (readRecording t a) b
+unfolding readRecording
+recording-append t a b h =
+    blocks-append (length (a ++ b) / 32) (length a / 32) (length b / 32) t a b (omega (arith, length-append a b)) (omega arith)
+
+pub left-over-append : (a b : List ℕ) → length a % 32 ≡ 0 → leftOver (a ++ b) ≡ leftOver b
+unfolding leftOver
+left-over-append a b h = omega (arith, length-append a b)
