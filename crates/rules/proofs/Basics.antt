@@ -1,16 +1,18 @@
 -- Small general facts that the other files of proofs/ share, in this order: deciding a Bool, an option or a list with its
--- equation; `&&`, `||` and `not`; the tests on numbers as equations; something said of every element of a list; lengths,
--- `take` and `drop`.
-use Prim.Native.Nat.{ℕ, zero, suc, _+_, _-_, _≤_, _<_}
+-- equation; `&&`, `||` and `not`; the tests on numbers as equations; something said of every element of a list, or of
+-- what an option holds; `map`.
+use Prim.Native.Nat.{ℕ, zero, suc}
 use native.Mathlib.Omega.{arith}
 use mathlib.Core.Path.{_≡_, refl, sym, _∙_, ap, subst}
 use mathlib.Core.Logic.{_↔_}
 use mathlib.Core.Bool.{Bool, true, false, not, cond, _&&_, _||_}
 use mathlib.Core.List.{List, [], _∷_, _++_, map}
+pub use mathlib.Core.List.{map-append, map-map}
 use mathlib.Core.Option.{Option, none, some}
-use lib.ListN.{length, getD, take, drop}
-use lib.Dec.{leb, ltb, eqb}
-use borrow.Author.Tests.{ltb-true, ltb-false, leb-true, leb-false, eqb-true, eqb-false, lt-ltb, le-ltb, le-leb, lt-leb, eq-eqb, ne-eqb}
+use lib.ListN.{getD, take, drop}
+use lib.Dec.{ltb, eqb}
+use borrow.Author.Tests.{ltb-true, ltb-false, eqb-true, eqb-false, lt-ltb, le-ltb, eq-eqb, ne-eqb}
+pub use borrow.Author.Tests.{not-true}
 
 -- ---- deciding
 
@@ -73,33 +75,36 @@ pub or-five : (a b c d e : Bool) → (a || b || c || d || e) ≡ false
 or-five a b c d e h =
     let h4 = or-false-left (a || b || c || d) e h in
     let h3 = or-false-left (a || b || c) d h4 in
-    let h2 = or-false-left (a || b) c h3 in
-    (or-false-left a b h2, or-false-right a b h2, or-false-right (a || b) c h3, or-false-right (a || b || c) d h4,
-    or-false-right (a || b || c || d) e h)
+    let h2 = or-false-left (a || b) c h3 in (
+      or-false-left a b h2,
+      or-false-right a b h2,
+      or-false-right (a || b) c h3,
+      or-false-right (a || b || c) d h4,
+      or-false-right (a || b || c || d) e h,
+    )
 
 pub and-three : (a b c : Bool) → ((a && b && c) ≡ true) ↔ ((a ≡ true) × (b ≡ true) × (c ≡ true))
-and-three a b c =
-    (λ h. let h2 = and-left (a && b) c h in (and-left a b h2, and-right a b h2, and-right (a && b) c h),
-    λ h. rw (h .0, h .1, h .2))
+and-three a b c = (
+  λ h. let h2 = and-left (a && b) c h in (and-left a b h2, and-right a b h2, and-right (a && b) c h),
+  λ h. rw (h .0, h .1, h .2),
+)
 
 pub and-four : (a b c d : Bool) → ((a && b && c && d) ≡ true) ↔ ((a ≡ true) × (b ≡ true) × (c ≡ true) × (d ≡ true))
-and-four a b c d =
-    (λ h. let h3 = and-left (a && b && c) d h in let t = and-three a b c .0 h3 in (t .0, t .1, t .2, and-right (a && b && c) d h),
-    λ h. rw (h .0, h .1, h .2, h .3))
+and-four a b c d = (
+  λ h. let h3 = and-left (a && b && c) d h in let t = and-three a b c .0 h3 in (t .0, t .1, t .2, and-right (a && b && c) d h),
+  λ h. rw (h .0, h .1, h .2, h .3),
+)
 
 pub and-five : (a b c d e : Bool) → ((a && b && c && d && e) ≡ true) ↔ ((a ≡ true) × (b ≡ true) × (c ≡ true) × (d ≡ true) × (e ≡ true))
-and-five a b c d e =
-    (λ h. let h4 = and-left (a && b && c && d) e h in let t = and-four a b c d .0 h4 in (t .0, t .1, t .2, t .3, and-right (a && b && c && d) e h),
-    λ h. rw (h .0, h .1, h .2, h .3, h .4))
+and-five a b c d e = (
+  λ h. let h4 = and-left (a && b && c && d) e h in let t = and-four a b c d .0 h4 in (t .0, t .1, t .2, t .3, and-right (a && b && c && d) e h),
+  λ h. rw (h .0, h .1, h .2, h .3, h .4),
+)
 
 -- one or the other
 pub or-cases {ℓ} : {C : Type ℓ} (a b : Bool) → (a || b) ≡ true → (a ≡ true → C) → (b ≡ true → C) → C
 or-cases true b e l r = l refl
 or-cases false b e l r = r e
-
-pub not-true : (b : Bool) → not b ≡ true → b ≡ false
-not-true true e = sym e
-not-true false e = refl
 
 pub true-not : (b : Bool) → b ≡ false → not b ≡ true
 true-not b e = rw e
@@ -229,14 +234,6 @@ within-imp P Q h none e = tt
 within-imp P Q h (some x) e = h x e
 
 -- ---- lists
-
-pub map-append : {A B : Type 0} (g : A → B) (xs ys : List A) → map g (xs ++ ys) ≡ map g xs ++ map g ys
-map-append g [] ys = refl
-map-append g (x ∷ xs) ys = ap (_∷_ (g x)) (map-append g xs ys)
-
-pub map-map : {A B C : Type 0} (h : B → C) (g : A → B) (xs : List A) → map h (map g xs) ≡ map (λ x. h (g x)) xs
-map-map h g [] = refl
-map-map h g (x ∷ xs) = ap (_∷_ (h (g x))) (map-map h g xs)
 
 -- two functions that agree on every element
 pub map-same : {A B : Type 0} (g h : A → B) (xs : List A) → Every (λ x. g x ≡ h x) xs → map g xs ≡ map h xs

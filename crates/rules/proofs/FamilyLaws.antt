@@ -2,20 +2,19 @@
 -- keys; looking a key up after replacing, inserting, storing, THE law (looking any key up after a field), after dropping open
 -- lists; what holds of every entry; room; ascending keys; looking up after forgetting; adding items; what holds of every list
 -- that fields make.
-use Prim.Native.Nat.{ℕ, zero, suc, _+_, _-_, _≤_, _<_}
+use Prim.Native.Nat.{suc, _+_, _≤_}
 use native.Mathlib.Omega.{arith}
 use mathlib.Core.Path.{_≡_, refl, sym, _∙_, ap, subst}
-use mathlib.Core.Bool.{Bool, true, false, not, cond, _&&_, _||_}
-use mathlib.Core.List.{List, [], _∷_, _++_, map, append-nil, append-assoc}
+use mathlib.Core.Bool.{Bool, true, false, cond, _||_}
+use mathlib.Core.List.{List, [], _∷_, _++_, append-nil, append-assoc}
 use mathlib.Core.Option.{Option, none, some, Option·map}
 use lib.ListN.{length, length-append, length-map}
 use lib.Dec.{leb, ltb}
-use borrow.Author.Tests.{ltb-true, ltb-false, leb-true, leb-false}
+use borrow.Author.Tests.{ltb-true, leb-true}
 use Rattle.rules.specs.declared.Note.{Note}
-use Rattle.rules.specs.declared.Note.the-variants.{Opened, ShownAndOpened, Added, NoOpenList, Full, TooLong, StateOnly, UnknownKey}
 use Rattle.rules.specs.Family.{Family, Listed, Act, start, continuation, noList, Said, Entry, member, added, addedAll, opening, extended, entryWith, started, continued, onHeld, fresh, onUnheld, kept, effect, find, replace, insert, store, step, steps, closed, dropOpen, forget}
 use Rattle.rules.specs.Demand3.{heldKeys}
-use Rattle.rules.proofs.Basics.{cases-bool, cases-option, true-false, none-some, or-false-left, or-false-right, or-neither, or-cases, cond-both, cond-cases, cond-twice, cond-order, Every, every-imp, every-map, every-append, Within, within-if, within-imp}
+use Rattle.rules.proofs.Basics.{cases-bool, true-false, none-some, or-false-left, or-false-right, or-neither, cond-both, cond-cases, cond-twice, cond-order, Every, every-imp, every-all, every-map, every-append, Within, within-if, within-imp}
 
 -- the tests of a family decide equality of keys and of items, and its order of keys is a strict total one
 pub record Lawful (F : Family) : Type 0 where
@@ -130,6 +129,9 @@ module _ (F : Family) (L : Lawful F) where
       (λ s h. let p : x ≡ e = cc in sym (L .same-is k (x .key) s ∙ ap (λ (y : Entry F). y .key) p))
       (λ s h. find-key k xs e h)
 
+  pub found-key : (k : Key) (t : List (Entry F)) → Within (λ e. e .key ≡ k) (find F k t)
+  found-key k t = within-if (λ e. e .key ≡ k) (find F k t) (find-key k t)
+
   -- the entry of another key is looked up past an entry
   pub find-past : (k : Key) (x : Entry F) (xs : List (Entry F)) → sameKey k (x .key) ≡ false → find F k (x ∷ xs) ≡ find F k xs
   unfolding find
@@ -162,10 +164,10 @@ module _ (F : Family) (L : Lawful F) where
   find-replace k e old [] h = none-some refl h
   find-replace k e old (x ∷ xs) h =
       let here : sameKey (e .key) (x .key) ≡ true → find F k (replace F e (x ∷ xs)) ≡ cond (sameKey k (e .key)) (some e) (find F k (x ∷ xs)) =
-          λ s. rw s (rw (← same-along k (e .key) (x .key) s) (sym (cond-twice (sameKey k (e .key)) (some e) (some x) (find F k xs)))) in
+      λ s. rw s (rw (← same-along k (e .key) (x .key) s) (sym (cond-twice (sameKey k (e .key)) (some e) (some x) (find F k xs)))) in
       let on : sameKey (e .key) (x .key) ≡ false → find F k (replace F e (x ∷ xs)) ≡ cond (sameKey k (e .key)) (some e) (find F k (x ∷ xs)) =
-          λ s. rw s (rw (find-replace k e old xs (sym (find-past (e .key) x xs s) ∙ h))
-              (cond-order (sameKey k (x .key)) (sameKey k (e .key)) (some x) (some e) (find F k xs) (not-both k (e .key) (x .key) s))) in
+      λ s. rw s (rw (find-replace k e old xs (sym (find-past (e .key) x xs s) ∙ h))
+      (cond-order (sameKey k (x .key)) (sameKey k (e .key)) (some x) (some e) (find F k xs) (not-both k (e .key) (x .key) s))) in
       cases-bool (sameKey (e .key) (x .key)) here on
 
   -- where the key of the new entry is not held, too
@@ -177,7 +179,7 @@ module _ (F : Family) (L : Lawful F) where
       let p = find-none-past (e .key) x xs h in
       cases-bool (keyBefore (e .key) (x .key)) (λ b. rw b)
       (λ b. rw b (rw (find-insert k e xs (p .1))
-          (cond-order (sameKey k (x .key)) (sameKey k (e .key)) (some x) (some e) (find F k xs) (not-both k (e .key) (x .key) (p .0)))))
+      (cond-order (sameKey k (x .key)) (sameKey k (e .key)) (some x) (some e) (find F k xs) (not-both k (e .key) (x .key) (p .0)))))
 
   -- what there was of a key and what there is now, put into the table: any key is looked up so
   pub find-store : (k l : Key) (old new : Option (Entry F)) (t : List (Entry F)) → find F l t ≡ old → Within (λ e. e .key ≡ l) new
@@ -203,8 +205,7 @@ module _ (F : Family) (L : Lawful F) where
   find-step k t f =
       let r = ltb (length t) room in
       let old = find F (f .key) t in
-      let within : Within (λ (e : Entry F). e .key ≡ f .key) old = within-if _ old (find-key (f .key) t) in
-      let law = find-store k (f .key) old (effect F r f old .0) t refl (effect-key F r f old within) (effect-keeps r f old) in
+      let law = find-store k (f .key) old (effect F r f old .0) t refl (effect-key F r f old (found-key (f .key) t)) (effect-keeps r f old) in
       cases-bool (sameKey k (f .key))
       (λ s. law ∙ ap (λ (x : Key). cond (sameKey k (f .key)) (effect F r f (find F x t) .0) (find F k t)) (sym (L .same-is k (f .key) s)))
       (λ s. law ∙ rw s)
@@ -288,7 +289,7 @@ module _ (F : Family) (L : Lawful F) where
   unfolding step
   every-step P t f c h =
       every-store F P (find F (f .key) t) (effect F (ltb (length t) room) f (find F (f .key) t) .0) t
-      (c (ltb (length t) room) (find F (f .key) t) (within-if _ (find F (f .key) t) (find-key F L (f .key) t)) (every-found F P (f .key) t h))
+      (c (ltb (length t) room) (find F (f .key) t) (found-key F L (f .key) t) (every-found F P (f .key) t h))
       h
 
   pub every-steps : (P : Entry F → Type 0) (t : List (Entry F)) (fs : List (Said F)) → Every (Keeps F P) fs → Every P t
@@ -447,7 +448,7 @@ module _ (F : Family) (L : Lawful F) where
   ascends-step t f h =
       let old = find F (f .key) t in
       ascends-store old (effect F (ltb (length t) room) f old .0) (f .key) t refl
-      (effect-key F (ltb (length t) room) f old (within-if _ old (find-key F L (f .key) t))) h
+      (effect-key F (ltb (length t) room) f old (found-key F L (f .key) t)) h
 
   pub ascends-steps : (t : List (Entry F)) (fs : List (Said F)) → Ascends F (heldKeys F t) → Ascends F (heldKeys F (steps F t fs .0))
   unfolding steps
@@ -618,11 +619,12 @@ module _ (F : Family) (L : Lawful F) where
   pub different-snoc : (xs : List Item) (x : Item) → Different F xs → member F x xs ≡ false → Different F (xs ++ x ∷ [])
   unfolding member
   different-snoc [] x d m = (refl, tt)
-  different-snoc (z ∷ zs) x d m =
-      (member-append F z zs (x ∷ [])
-      ∙ or-neither (member F z zs) (member F z (x ∷ [])) (d .0)
+  different-snoc (z ∷ zs) x d m = (
+    member-append F z zs (x ∷ [])
+        ∙ or-neither (member F z zs) (member F z (x ∷ [])) (d .0)
         (or-neither (sameItem z x) false (item-differ-sym x z (or-false-left (sameItem x z) (member F x zs) m)) refl),
-      different-snoc zs x (d .1) (or-false-right (sameItem x z) (member F x zs) m))
+    different-snoc zs x (d .1) (or-false-right (sameItem x z) (member F x zs) m),
+  )
 
   pub different-added : (xs : List Item) (x : Item) → Different F xs → Different F (added F xs x)
   unfolding added
@@ -701,3 +703,28 @@ module _ (F : Family) where
   brings-items P k (start l) h = every-addedAll F (P k) [] (l .items) tt h
   brings-items P k (continuation m) h = λ d p le. every-addedAll F (P k) (d .items) (m .items) p h
   brings-items P k noList h = tt
+
+-- ---- so every list that fields make has all four
+
+module _ (F : Family) (L : Lawful F) where
+  open Family F using (Key, Item, most)
+
+  pub different-steps : (t : List (Entry F)) (fs : List (Said F)) → Every (Lists F (λ k l. Different F (l .items))) t
+      → Every (Lists F (λ k l. Different F (l .items))) (steps F t fs .0)
+  different-steps t fs h =
+      lists-steps F L (λ k l. Different F (l .items)) t fs (every-all _ (λ f. brings-different F L (f .key) (f .act)) fs) h
+
+  pub most-steps : (t : List (Entry F)) (fs : List (Said F)) → Every (λ f. Started F (λ l. length (l .items) ≤ most) (f .act)) fs
+      → Every (Lists F (λ k l. length (l .items) ≤ most)) t → Every (Lists F (λ k l. length (l .items) ≤ most)) (steps F t fs .0)
+  most-steps t fs b h =
+      lists-steps F L (λ k l. length (l .items) ≤ most) t fs (every-imp _ _ (λ f. brings-most F (f .key) (f .act)) fs b) h
+
+  pub some-steps : (t : List (Entry F)) (fs : List (Said F)) → Every (λ f. Started F (λ l. 1 ≤ length (l .items)) (f .act)) fs
+      → Every (Lists F (λ k l. 1 ≤ length (l .items))) t → Every (Lists F (λ k l. 1 ≤ length (l .items))) (steps F t fs .0)
+  some-steps t fs b h = lists-steps F L (λ k l. 1 ≤ length (l .items)) t fs (every-imp _ _ (λ f. brings-some F (f .key) (f .act)) fs b) h
+
+  pub items-steps : (P : Key → Item → Type 0) (t : List (Entry F)) (fs : List (Said F))
+      → Every (λ f. Carried F (λ l. Every (P (f .key)) (l .items)) (f .act)) fs → Every (Lists F (λ k l. Every (P k) (l .items))) t
+      → Every (Lists F (λ k l. Every (P k) (l .items))) (steps F t fs .0)
+  items-steps P t fs b h =
+      lists-steps F L (λ k l. Every (P k) (l .items)) t fs (every-imp _ _ (λ f. brings-items F P (f .key) (f .act)) fs b) h

@@ -1,27 +1,27 @@
 -- The laws of collecting for linkage sets. In this order: the tests of linkage are lawful; the table rules taken apart, entry by
 -- entry and list by list; a field of a taken block brings lists that meet them; so reading blocks of bytes and forgetting keep
 -- the table rules; refused blocks; outcomes; recordings.
-use Prim.Native.Nat.{ℕ, zero, suc, _+_, _-_, _*_, _/_, _%_, _^_, _≤_, _<_, max}
+use Prim.Native.Nat.{ℕ, zero, suc, _+_, _*_, _/_, _%_, _^_, _≤_, _<_, max}
 use native.Mathlib.Omega.{arith}
 use mathlib.Core.Path.{_≡_, refl, sym, _∙_, ap, subst}
 use mathlib.Core.Logic.{_↔_}
 use mathlib.Core.Bool.{Bool, true, false, not, cond, _&&_, _||_}
 use mathlib.Core.List.{List, [], _∷_, _++_, map}
 use mathlib.Core.Option.{Option, none, some}
-use lib.ListN.{length, getD, take, drop, length-append, length-take, length-drop, length-map}
+use lib.ListN.{length, getD, take, drop, length-append, length-drop, length-map}
 use lib.Seq.{take-append-le, drop-append-le}
 use lib.Dec.{leb, ltb, eqb}
-use borrow.Author.Tests.{ltb-true, ltb-false, leb-true, leb-false, eqb-true, eqb-false, lt-ltb, le-leb, eq-eqb, ne-eqb}
+use borrow.Author.Tests.{ltb-true, ltb-false, leb-true, eqb-true, eqb-false, lt-ltb, le-leb, eq-eqb, ne-eqb}
 use Rattle.rules.specs.declared.Outcome.{Outcome}
-use Rattle.rules.specs.declared.Outcome.the-variants.{Done, NotABlock, CheckFails, WrongFig, WrongField, WrongValue, EmptyStart}
+use Rattle.rules.specs.declared.Outcome.the-variants.{Done, NotABlock}
 use Rattle.rules.specs.Block.{Walk, whole, broken, Fig, figs, checkHolds}
 use Rattle.rules.specs.Field.{Field, keyOf, Pair, pair, pairsOf, startPairs, firstKind, namedBy, hasList, isContinuation, width, dab, rds, drm, wrongValue, emptyStart}
-use Rattle.rules.specs.Family.{Family, Listed, Act, start, continuation, noList, Said, Entry, member, addedAll, opening, extended, entryWith, step, steps, closed, dropOpen, forget}
+use Rattle.rules.specs.Family.{start, continuation, noList, member, addedAll, opening, extended, entryWith, steps, closed, dropOpen, forget}
 use Rattle.rules.specs.Collecting.{samePair, joinNames, linkage, IdSet, Held, Content, brings, actOf, said, keyWidth, allDiffer, firstIsDab, kindNamed, pairsMeet, namesMeet, setMeets, ifThere, entryMeets, ascends, entriesMeet, meets, Shown, showing, shownSets}
 use Rattle.rules.specs.Outcomes.{numberOf, Verdict, taken, refused, noBlock, judgeFields, judgeFigs, verdict, Answer, answerTo, readBlock, readBlocks, readRecording, leftOver, allFields, some?}
 use Rattle.rules.specs.Demand3.{heldKeys}
 use Rattle.rules.proofs.Basics.{cases-bool, true-false, and-left, and-right, and-both, and-three, and-four, and-five, or-left, or-right, or-cases, not-true, true-not, cond-cases, cond-both, eqb-self, ltb-self, ltb-trans, ltb-or, Every, every-imp, every-both, every-map, every-from, every-take, every-drop, Within}
-use Rattle.rules.proofs.FamilyLaws.{Lawful, Keeps, After, Ascends, Different, keys-every, Lists, Brings, keeps-key, every-steps, every-forget, every-drop-open, room-steps, length-drop-open, length-forget, ascends-steps, ascends-drop-open, ascends-forget, after-through, different-addedAll, addedAll-first, opening-first, length-addedAll, every-addedAll, lists-keep, lists-steps, lists-closed, steps-notes}
+use Rattle.rules.proofs.FamilyLaws.{Lawful, Keeps, After, Ascends, Different, keys-every, Lists, Brings, keeps-key, every-steps, every-forget, every-drop-open, room-steps, length-drop-open, length-forget, ascends-steps, ascends-drop-open, ascends-forget, after-through, different-addedAll, addedAll-first, opening-first, length-addedAll, every-addedAll, lists-steps, lists-closed, steps-notes}
 use Rattle.rules.proofs.Taken.{Bytes, FieldBits, GoodField, taken-good, taken-few}
 
 -- ---- the tests of linkage
@@ -40,8 +40,14 @@ pair-self p = and-both (eqb (p .kind) (p .kind)) (eqb (p .number) (p .number)) (
 pub lawful : Lawful linkage
 lawful =
     record {
-      same-is = eqb-true; same-self = eqb-self; before-self = ltb-self; before-trans = ltb-trans; before-or = ltb-or;
-      item-is = pair-is; item-self = pair-self }
+      same-is = eqb-true;
+      same-self = eqb-self;
+      before-self = ltb-self;
+      before-trans = ltb-trans;
+      before-or = ltb-or;
+      item-is = pair-is;
+      item-self = pair-self;
+    }
 
 -- ---- the table rules taken apart
 
@@ -53,17 +59,21 @@ pub pairs-meet : (w named : ℕ) (ps : List Pair) → (pairsMeet w named ps ≡ 
 unfolding pairsMeet
 pairs-meet w named [] = (λ h. tt, λ h. refl)
 pairs-meet w named (p ∷ ps) =
-    let a = and-three (ltb (p .number) (256 ^ w)) (kindNamed named (p .kind)) (pairsMeet w named ps) in
-    (λ h. let t = a .0 h in ((ltb-true (p .number) (256 ^ w) (t .0), t .1), pairs-meet w named ps .0 (t .2)),
-    λ h. a .1 (lt-ltb (p .number) (256 ^ w) (h .0 .0), h .0 .1, pairs-meet w named ps .1 (h .1)))
+    let a = and-three (ltb (p .number) (256 ^ w)) (kindNamed named (p .kind)) (pairsMeet w named ps) in (
+      λ h. let t = a .0 h in ((ltb-true (p .number) (256 ^ w) (t .0), t .1), pairs-meet w named ps .0 (t .2)),
+      λ h. a .1 (lt-ltb (p .number) (256 ^ w) (h .0 .0), h .0 .1, pairs-meet w named ps .1 (h .1)),
+    )
 
 pub all-differ : (ps : List Pair) → (allDiffer ps ≡ true) ↔ Different linkage ps
 unfolding allDiffer
 all-differ [] = (λ h. tt, λ h. refl)
-all-differ (p ∷ ps) =
-    (λ h. (not-true (member linkage p ps) (and-left (not (member linkage p ps)) (allDiffer ps) h),
-      all-differ ps .0 (and-right (not (member linkage p ps)) (allDiffer ps) h)),
-    λ h. and-both (not (member linkage p ps)) (allDiffer ps) (true-not (member linkage p ps) (h .0)) (all-differ ps .1 (h .1)))
+all-differ (p ∷ ps) = (
+  λ h. (
+    not-true (member linkage p ps) (and-left (not (member linkage p ps)) (allDiffer ps) h),
+    all-differ ps .0 (and-right (not (member linkage p ps)) (allDiffer ps) h),
+  ),
+  λ h. and-both (not (member linkage p ps)) (allDiffer ps) (true-not (member linkage p ps) (h .0)) (all-differ ps .1 (h .1)),
+)
 
 -- a set that meets the rules under a key
 pub record SetMeets (k : ℕ) (l : IdSet) : Type 0 where
@@ -77,14 +87,23 @@ pub set-meets : (k : ℕ) (l : IdSet) → (setMeets k l ≡ true) ↔ SetMeets k
 unfolding setMeets
 set-meets k l =
     let a = and-five (leb (length (l .items)) 128) (firstIsDab (l .items)) (allDiffer (l .items))
-        (pairsMeet (keyWidth k) (l .named) (l .items)) (namesMeet k (l .named)) in
-    (λ h. let t = a .0 h in
-      record {
-        short = leb-true (length (l .items)) 128 (t .0); first = t .1; differ = all-differ (l .items) .0 (t .2);
-        pairs = pairs-meet (keyWidth k) (l .named) (l .items) .0 (t .3); names = t .4 },
-    λ m. a .1
-      (le-leb (length (l .items)) 128 (m .short), m .first, all-differ (l .items) .1 (m .differ),
-      pairs-meet (keyWidth k) (l .named) (l .items) .1 (m .pairs), m .names))
+    (pairsMeet (keyWidth k) (l .named) (l .items)) (namesMeet k (l .named)) in (
+      λ h. let t = a .0 h in
+          record {
+            short = leb-true (length (l .items)) 128 (t .0);
+            first = t .1;
+            differ = all-differ (l .items) .0 (t .2);
+            pairs = pairs-meet (keyWidth k) (l .named) (l .items) .0 (t .3);
+            names = t .4;
+          },
+      λ m. a .1 (
+        le-leb (length (l .items)) 128 (m .short),
+        m .first,
+        all-differ (l .items) .1 (m .differ),
+        pairs-meet (keyWidth k) (l .named) (l .items) .1 (m .pairs),
+        m .names,
+      ),
+    )
 
 pub if-there : (k : ℕ) (o : Option IdSet) → (ifThere k o ≡ true) ↔ Within (SetMeets k) o
 unfolding ifThere
@@ -102,30 +121,37 @@ EntryMeets e = KeyMeets (e .key) × Lists linkage SetMeets e
 pub entry-meets : (e : Held) → (entryMeets e ≡ true) ↔ EntryMeets e
 unfolding entryMeets
 entry-meets e =
-    let a = and-four (ltb (e .key) 65536) (not (eqb (e .key % 4096) 0)) (ifThere (e .key) (e .shown)) (ifThere (e .key) (e .draft)) in
-    (λ h. let t = a .0 h in
-      ((ltb-true (e .key) 65536 (t .0), eqb-false (e .key % 4096) 0 (not-true (eqb (e .key % 4096) 0) (t .1))),
-      (if-there (e .key) (e .shown) .0 (t .2), if-there (e .key) (e .draft) .0 (t .3))),
-    λ m. a .1
-      (lt-ltb (e .key) 65536 (m .0 .0), true-not (eqb (e .key % 4096) 0) (ne-eqb (e .key % 4096) 0 (m .0 .1)),
-      if-there (e .key) (e .shown) .1 (m .1 .0), if-there (e .key) (e .draft) .1 (m .1 .1)))
+    let a = and-four (ltb (e .key) 65536) (not (eqb (e .key % 4096) 0)) (ifThere (e .key) (e .shown)) (ifThere (e .key) (e .draft)) in (
+      λ h. let t = a .0 h in (
+        (ltb-true (e .key) 65536 (t .0), eqb-false (e .key % 4096) 0 (not-true (eqb (e .key % 4096) 0) (t .1))),
+        (if-there (e .key) (e .shown) .0 (t .2), if-there (e .key) (e .draft) .0 (t .3)),
+      ),
+      λ m. a .1 (
+        lt-ltb (e .key) 65536 (m .0 .0),
+        true-not (eqb (e .key % 4096) 0) (ne-eqb (e .key % 4096) 0 (m .0 .1)),
+        if-there (e .key) (e .shown) .1 (m .1 .0),
+        if-there (e .key) (e .draft) .1 (m .1 .1),
+      ),
+    )
 
 pub entries-meet : (t : Content) → (entriesMeet t ≡ true) ↔ Every EntryMeets t
 unfolding entriesMeet
 entries-meet [] = (λ h. tt, λ h. refl)
-entries-meet (e ∷ es) =
-    (λ h. (entry-meets e .0 (and-left (entryMeets e) (entriesMeet es) h), entries-meet es .0 (and-right (entryMeets e) (entriesMeet es) h)),
-    λ m. and-both (entryMeets e) (entriesMeet es) (entry-meets e .1 (m .0)) (entries-meet es .1 (m .1)))
+entries-meet (e ∷ es) = (
+  λ h. (entry-meets e .0 (and-left (entryMeets e) (entriesMeet es) h), entries-meet es .0 (and-right (entryMeets e) (entriesMeet es) h)),
+  λ m. and-both (entryMeets e) (entriesMeet es) (entry-meets e .1 (m .0)) (entries-meet es .1 (m .1)),
+)
 
 pub ascends-keys : (k : ℕ) (t : Content) → (ascends k t ≡ true) ↔ (After linkage k (heldKeys linkage t) × Ascends linkage (heldKeys linkage t))
 unfolding ascends heldKeys
 ascends-keys k [] = (λ h. (tt, tt), λ h. refl)
-ascends-keys k (e ∷ es) =
-    (λ h.
+ascends-keys k (e ∷ es) = (
+  λ h.
       let b = and-left (ltb k (e .key)) (ascends (e .key) es) h in
       let r = ascends-keys (e .key) es .0 (and-right (ltb k (e .key)) (ascends (e .key) es) h) in
       ((b, after-through linkage lawful k (e .key) (heldKeys linkage es) b (r .0)), r),
-    λ m. and-both (ltb k (e .key)) (ascends (e .key) es) (m .0 .0) (ascends-keys (e .key) es .1 (m .1)))
+  λ m. and-both (ltb k (e .key)) (ascends (e .key) es) (m .0 .0) (ascends-keys (e .key) es .1 (m .1)),
+)
 
 pub key-some : (k : ℕ) → KeyMeets k → 0 < k
 key-some k h = cases-bool (ltb 0 k) (ltb-true 0 k) (λ z. absurd (h .1 (omega (arith, ltb-false 0 k z))))
@@ -139,16 +165,19 @@ pub record Meets (t : Content) : Type 0 where
 pub table-meets : (t : Content) → (meets t ≡ true) ↔ Meets t
 unfolding meets
 table-meets t =
-    let a = and-three (leb (length t) 32) (ascends 0 t) (entriesMeet t) in
-    (λ h. let r = a .0 h in
-      record { few = leb-true (length t) 32 (r .0); ascend = ascends-keys 0 t .0 (r .1) .1; entries = entries-meet t .0 (r .2) },
-    λ m. a .1
-      (le-leb (length t) 32 (m .few),
-      ascends-keys 0 t .1
-        (keys-every linkage (λ k. ltb 0 k ≡ true) t
-          (every-imp EntryMeets (λ e. ltb 0 (e .key) ≡ true) (λ e h. lt-ltb 0 (e .key) (key-some (e .key) (h .0))) t (m .entries)),
-        m .ascend),
-      entries-meet t .1 (m .entries)))
+    let a = and-three (leb (length t) 32) (ascends 0 t) (entriesMeet t) in (
+      λ h. let r = a .0 h in
+          record { few = leb-true (length t) 32 (r .0); ascend = ascends-keys 0 t .0 (r .1) .1; entries = entries-meet t .0 (r .2) },
+      λ m. a .1 (
+        le-leb (length t) 32 (m .few),
+        ascends-keys 0 t .1 (
+          keys-every linkage (λ k. ltb 0 k ≡ true) t
+              (every-imp EntryMeets (λ e. ltb 0 (e .key) ≡ true) (λ e h. lt-ltb 0 (e .key) (key-some (e .key) (h .0))) t (m .entries)),
+          m .ascend,
+        ),
+        entries-meet t .1 (m .entries),
+      ),
+    )
 
 pub meets-nil : meets [] ≡ true
 unfolding meets ascends entriesMeet
@@ -178,14 +207,14 @@ unfolding kindNamed
 named-through a c k low high h =
     or-cases (eqb k dab || (eqb k rds && eqb (a % 2) 1)) (eqb k drm && eqb (a / 2) 1) h
     (λ l. or-cases (eqb k dab) (eqb k rds && eqb (a % 2) 1) l
-      (λ z. or-left (eqb k dab || (eqb k rds && eqb (c % 2) 1)) (eqb k drm && eqb (c / 2) 1) (or-left (eqb k dab) (eqb k rds && eqb (c % 2) 1) z))
-      (λ r. or-left (eqb k dab || (eqb k rds && eqb (c % 2) 1)) (eqb k drm && eqb (c / 2) 1)
-        (or-right (eqb k dab) (eqb k rds && eqb (c % 2) 1)
-        (and-both (eqb k rds) (eqb (c % 2) 1) (and-left (eqb k rds) (eqb (a % 2) 1) r)
-        (eq-eqb (c % 2) 1 (low (eqb-true (a % 2) 1 (and-right (eqb k rds) (eqb (a % 2) 1) r))))))))
+    (λ z. or-left (eqb k dab || (eqb k rds && eqb (c % 2) 1)) (eqb k drm && eqb (c / 2) 1) (or-left (eqb k dab) (eqb k rds && eqb (c % 2) 1) z))
+    (λ r. or-left (eqb k dab || (eqb k rds && eqb (c % 2) 1)) (eqb k drm && eqb (c / 2) 1)
+    (or-right (eqb k dab) (eqb k rds && eqb (c % 2) 1)
+    (and-both (eqb k rds) (eqb (c % 2) 1) (and-left (eqb k rds) (eqb (a % 2) 1) r)
+    (eq-eqb (c % 2) 1 (low (eqb-true (a % 2) 1 (and-right (eqb k rds) (eqb (a % 2) 1) r))))))))
     (λ d. or-right (eqb k dab || (eqb k rds && eqb (c % 2) 1)) (eqb k drm && eqb (c / 2) 1)
-      (and-both (eqb k drm) (eqb (c / 2) 1) (and-left (eqb k drm) (eqb (a / 2) 1) d)
-      (eq-eqb (c / 2) 1 (high (eqb-true (a / 2) 1 (and-right (eqb k drm) (eqb (a / 2) 1) d))))))
+    (and-both (eqb k drm) (eqb (c / 2) 1) (and-left (eqb k drm) (eqb (a / 2) 1) d)
+    (eq-eqb (c / 2) 1 (high (eqb-true (a / 2) 1 (and-right (eqb k drm) (eqb (a / 2) 1) d))))))
 
 pub named-left : (a b k : ℕ) → a < 4 → b < 4 → kindNamed a k ≡ true → kindNamed (joinNames a b) k ≡ true
 named-left a b k p q = named-through a (joinNames a b) k (λ h. omega (arith, join-low a b p q)) (λ h. omega (arith, join-high a b p q))
@@ -277,8 +306,8 @@ field-pairs f g =
     let q = own-named (f .qualifier) (b .qualifier) (g .reserved) in
     rw (key-width f b)
     (cond-both (Every (PairMeets (width (f .pd) (f .ils)) (namedBy (f .qualifier)))) (isContinuation f) _ _
-      (kind-pairs (width (f .pd) (f .ils)) (namedBy (f .qualifier)) (f .qualifier) q (f .numbers) (b .within))
-      (start-pairs (width (f .pd) (f .ils)) (namedBy (f .qualifier)) 0 (f .qualifier) (dab-named (namedBy (f .qualifier))) q (f .numbers) (b .within)))
+    (kind-pairs (width (f .pd) (f .ils)) (namedBy (f .qualifier)) (f .qualifier) q (f .numbers) (b .within))
+    (start-pairs (width (f .pd) (f .ils)) (namedBy (f .qualifier)) 0 (f .qualifier) (dab-named (namedBy (f .qualifier))) q (f .numbers) (b .within)))
 
 pub length-start-pairs : (k q : ℕ) (ns : List ℕ) → length (startPairs k q ns) ≡ length ns
 unfolding startPairs
@@ -317,7 +346,8 @@ start-meets f g h c =
       first = field-first f g h c;
       differ = different-addedAll linkage lawful [] (pairsOf f) tt;
       pairs = every-addedAll linkage (PairMeets (keyWidth (keyOf f)) (namedBy (f .qualifier))) [] (pairsOf f) tt (field-pairs f g);
-      names = field-names f g }
+      names = field-names f g;
+    }
 
 -- a list to which a continuation is added
 pub continued-meets : (f : Field) (d : IdSet) → GoodField f → SetMeets (keyOf f) d → length (extended linkage d (brings f) .items) ≤ 128
@@ -333,18 +363,19 @@ continued-meets f d g m l =
       first = added-first (d .items) (pairsOf f) (m .first);
       differ = different-addedAll linkage lawful (d .items) (pairsOf f) (m .differ);
       pairs =
-        every-addedAll linkage wide (d .items) (pairsOf f)
-        (every-imp (PairMeets w (d .named)) wide (λ p h. (h .0, named-left (d .named) named (p .kind) below (namedBy-below (f .qualifier)) (h .1))) (d .items) (m .pairs))
-        (every-imp (PairMeets w named) wide (λ p h. (h .0, named-right (d .named) named (p .kind) below (namedBy-below (f .qualifier)) (h .1))) (pairsOf f) (field-pairs f g));
-      names = names-join (keyOf f) (d .named) named (m .names) (field-names f g) }
+          every-addedAll linkage wide (d .items) (pairsOf f)
+          (every-imp (PairMeets w (d .named)) wide (λ p h. (h .0, named-left (d .named) named (p .kind) below (namedBy-below (f .qualifier)) (h .1))) (d .items) (m .pairs))
+          (every-imp (PairMeets w named) wide (λ p h. (h .0, named-right (d .named) named (p .kind) below (namedBy-below (f .qualifier)) (h .1))) (pairsOf f) (field-pairs f g));
+      names = names-join (keyOf f) (d .named) named (m .names) (field-names f g);
+    }
 
 pub field-brings : (f : Field) → GoodField f → Brings linkage SetMeets (keyOf f) (actOf f)
 unfolding actOf
 field-brings f g =
     cond-cases (Brings linkage SetMeets (keyOf f)) (hasList f) _ noList
     (λ h. cond-cases (Brings linkage SetMeets (keyOf f)) (isContinuation f) (continuation (brings f)) (start (brings f))
-      (λ c d m l. continued-meets f d g m l)
-      (λ c. start-meets f g h c))
+    (λ c d m l. continued-meets f d g m l)
+    (λ c. start-meets f g h c))
     (λ h. tt)
 
 -- ---- the table rules are kept
@@ -356,15 +387,16 @@ meets-steps t fs g m =
       few = room-steps linkage t (map said fs) (m .few);
       ascend = ascends-steps linkage lawful t (map said fs) (m .ascend);
       entries =
-        every-both (λ e. KeyMeets (e .key)) (Lists linkage SetMeets) EntryMeets (λ e k l. (k, l)) (steps linkage t (map said fs) .0)
-        (every-steps linkage lawful (λ e. KeyMeets (e .key)) t (map said fs)
+          every-both (λ e. KeyMeets (e .key)) (Lists linkage SetMeets) EntryMeets (λ e k l. (k, l)) (steps linkage t (map said fs) .0)
+          (every-steps linkage lawful (λ e. KeyMeets (e .key)) t (map said fs)
           (every-map (Keeps linkage (λ e. KeyMeets (e .key))) said fs
-            (every-imp GoodField (λ f. Keeps linkage (λ e. KeyMeets (e .key)) (said f)) (λ f g. keeps-key linkage KeyMeets (said f) (field-key f g)) fs g))
+          (every-imp GoodField (λ f. Keeps linkage (λ e. KeyMeets (e .key)) (said f)) (λ f g. keeps-key linkage KeyMeets (said f) (field-key f g)) fs g))
           (every-imp EntryMeets (λ e. KeyMeets (e .key)) (λ e h. h .0) t (m .entries)))
-        (lists-steps linkage lawful SetMeets t (map said fs)
+          (lists-steps linkage lawful SetMeets t (map said fs)
           (every-map (λ f. Brings linkage SetMeets (f .key) (f .act)) said fs
-            (every-imp GoodField (λ f. Brings linkage SetMeets (keyOf f) (actOf f)) field-brings fs g))
-          (every-imp EntryMeets (Lists linkage SetMeets) (λ e h. h .1) t (m .entries))) }
+          (every-imp GoodField (λ f. Brings linkage SetMeets (keyOf f) (actOf f)) field-brings fs g))
+          (every-imp EntryMeets (Lists linkage SetMeets) (λ e h. h .1) t (m .entries)));
+    }
 
 pub meets-drop-open : (t : Content) → Meets t → Meets (dropOpen linkage t)
 unfolding closed entryWith
@@ -372,14 +404,16 @@ meets-drop-open t m =
     record {
       few = rw (length-drop-open linkage t) (m .few);
       ascend = ascends-drop-open linkage lawful t (m .ascend);
-      entries = every-drop-open linkage EntryMeets t (λ e h. (h .0, lists-closed linkage SetMeets e (h .1))) (m .entries) }
+      entries = every-drop-open linkage EntryMeets t (λ e h. (h .0, lists-closed linkage SetMeets e (h .1))) (m .entries);
+    }
 
 pub meets-forget : (k : ℕ) (t : Content) → Meets t → Meets (forget linkage k t)
 meets-forget k t m =
     record {
       few = omega (arith, length-forget linkage k t, m .few);
       ascend = ascends-forget linkage lawful k t (m .ascend);
-      entries = every-forget linkage EntryMeets k t (m .entries) }
+      entries = every-forget linkage EntryMeets k t (m .entries);
+    }
 
 -- ---- reading a block
 
@@ -427,7 +461,7 @@ pub notes-few : (t : Content) (fib : List ℕ) → length (readBlock t fib .note
 notes-few t fib =
     cases-verdict (verdict fib)
     (λ fs e. subst (λ (a : Answer). length (a .notes) ≤ 14) (sym (answer-taken t fib fs e))
-      (omega (arith, steps-notes linkage t (map said fs), length-map fs said, taken-few fib fs e)))
+    (omega (arith, steps-notes linkage t (map said fs), length-map fs said, taken-few fib fs e)))
     (λ o e. subst (λ (a : Answer). length (a .notes) ≤ 14) (sym (answer-refused t fib o e)) (omega arith))
     (λ e. subst (λ (a : Answer). length (a .notes) ≤ 14) (sym (answer-none t fib e)) (omega arith))
 
@@ -493,10 +527,10 @@ unfolding numberOf
 outcome-low t fib =
     cases-bool (eqb (length fib) 32)
     (λ l. cases-verdict (verdict fib)
-      (λ fs e. subst (λ (a : Answer). numberOf (a .outcome) ≤ 6) (sym (answer-taken t fib fs e)) (omega arith))
-      (λ o e. subst (λ (a : Answer). numberOf (a .outcome) ≤ 6) (sym (answer-refused t fib o e))
-        (subst Refusal e (full-refusal fib (eqb-true (length fib) 32 l)) .1))
-      (λ e. subst (λ (a : Answer). numberOf (a .outcome) ≤ 6) (sym (answer-none t fib e)) (omega arith)))
+    (λ fs e. subst (λ (a : Answer). numberOf (a .outcome) ≤ 6) (sym (answer-taken t fib fs e)) (omega arith))
+    (λ o e. subst (λ (a : Answer). numberOf (a .outcome) ≤ 6) (sym (answer-refused t fib o e))
+    (subst Refusal e (full-refusal fib (eqb-true (length fib) 32 l)) .1))
+    (λ e. subst (λ (a : Answer). numberOf (a .outcome) ≤ 6) (sym (answer-none t fib e)) (omega arith)))
     (λ l. subst (λ (a : Answer). numberOf (a .outcome) ≤ 6) (sym (no-block t fib (eqb-false (length fib) 32 l))) (omega arith))
 
 -- ---- recordings

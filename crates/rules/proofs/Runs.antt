@@ -1,20 +1,20 @@
 -- Runs over a family: blocks that are taken or refused, what is ignored, and keys that are forgotten, one after the other.
 -- In this order: the operations and a run of them; the laws of FamilyLaws for runs; a table is never full where the distinct
 -- keys held or started are at most its room; there, what is held of one key is worked out from its own fields alone.
-use Prim.Native.Nat.{ℕ, zero, suc, _+_, _≤_, _<_}
+use Prim.Native.Nat.{suc, _≤_}
 use native.Mathlib.Omega.{arith}
-use mathlib.Core.Path.{_≡_, refl, sym, _∙_, ap, subst}
-use mathlib.Core.Bool.{Bool, true, false, not, cond, _&&_, _||_}
-use mathlib.Core.List.{List, [], _∷_, _++_, map}
+use mathlib.Core.Path.{_≡_, refl, _∙_, ap}
+use mathlib.Core.Bool.{Bool, true, false, cond, _||_}
+use mathlib.Core.List.{List, [], _∷_, _++_}
 use mathlib.Core.Option.{Option, none, some, Option·map}
 use lib.ListN.{length}
 use lib.Dec.{ltb}
 use borrow.Author.Tests.{lt-ltb}
 use Rattle.rules.specs.declared.Note.{Note}
-use Rattle.rules.specs.Family.{Family, Listed, Act, start, continuation, noList, Said, Entry, onHeld, fresh, onUnheld, kept, entryWith, effect, find, insert, step, steps, closed, dropOpen, forget}
+use Rattle.rules.specs.Family.{Family, Listed, Act, start, continuation, noList, Said, Entry, fresh, onUnheld, kept, entryWith, effect, find, insert, step, steps, closed, dropOpen, forget}
 use Rattle.rules.specs.Demand3.{heldKeys, ifStart, startedKeys, among, once}
-use Rattle.rules.proofs.Basics.{cases-bool, cases-option, true-false, or-left, or-right, or-cases, cond-both, cond-cases, Every, every-imp, every-all, every-both, every-append, every-left, every-right, Within}
-use Rattle.rules.proofs.FamilyLaws.{Lawful, Keeps, Ascends, Lists, Brings, every-step, every-steps, every-found, every-insert, every-forget, every-drop-open, room-steps, length-drop-open, length-forget, length-insert, ascends-insert, ascends-step, ascends-steps, ascends-drop-open, ascends-forget, lists-steps, lists-closed, find-step, find-drop, find-forget, find-forget-own, find-none-past, every-keys, onHeld-key, differ-sym}
+use Rattle.rules.proofs.Basics.{cases-bool, cases-option, true-false, or-left, or-right, or-cases, cond-both, cond-cases, Every, every-imp, every-both, every-left, every-right, Within}
+use Rattle.rules.proofs.FamilyLaws.{Lawful, Keeps, Ascends, Lists, Brings, every-step, every-steps, every-insert, every-forget, every-drop-open, room-steps, length-drop-open, length-forget, length-insert, ascends-insert, ascends-step, ascends-steps, ascends-drop-open, ascends-forget, lists-steps, lists-closed, find-step, find-drop, find-forget, find-forget-own, find-none-past, every-keys, onHeld-key, differ-sym}
 
 -- ---- operations, and a run of them
 
@@ -161,10 +161,11 @@ module _ (F : Family) (L : Lawful F) where
   pub among-self : (us : List Key) → Every (λ k. among F k us ≡ true) us
   unfolding among
   among-self [] = tt
-  among-self (u ∷ us) =
-      (or-left (sameKey u u) (among F u us) (L .same-self u),
-      every-imp (λ k. among F k us ≡ true) (λ k. (sameKey k u || among F k us) ≡ true) (λ k. or-right (sameKey k u) (among F k us)) us
-      (among-self us))
+  among-self (u ∷ us) = (
+    or-left (sameKey u u) (among F u us) (L .same-self u),
+    every-imp (λ k. among F k us ≡ true) (λ k. (sameKey k u || among F k us) ≡ true) (λ k. or-right (sameKey k u) (among F k us)) us
+        (among-self us),
+  )
 
   -- where nothing is found of a key, every entry has another
   pub none-every : (k : Key) (t : List (Entry F)) → find F k t ≡ none → Every (λ e. sameKey k (e .key) ≡ false) t
@@ -178,14 +179,14 @@ module _ (F : Family) (L : Lawful F) where
   keys-fit [] (e ∷ es) a h = true-false (h .0) refl
   keys-fit (u ∷ us) t a h =
       let old : among F u us ≡ true → length t ≤ length (once F us) =
-          λ m. keys-fit us t a
-          (every-imp (KeyIn F (u ∷ us)) (KeyIn F us)
-          (λ e n. or-cases (sameKey (e .key) u) (among F (e .key) us) n (λ s. rw (L .same-is (e .key) u s) m) (λ q. q)) t h) in
+      λ m. keys-fit us t a
+      (every-imp (KeyIn F (u ∷ us)) (KeyIn F us)
+      (λ e n. or-cases (sameKey (e .key) u) (among F (e .key) us) n (λ s. rw (L .same-is (e .key) u s) m) (λ q. q)) t h) in
       let rest : length (forget F u t) ≤ length (once F us) =
-          keys-fit us (forget F u t) (ascends-forget F L u t a)
-          (every-both (λ e. sameKey u (e .key) ≡ false) (KeyIn F (u ∷ us)) (KeyIn F us)
-          (λ e d n. or-cases (sameKey (e .key) u) (among F (e .key) us) n (λ s. true-false s (differ-sym F L u (e .key) d)) (λ q. q))
-          (forget F u t) (none-every u (forget F u t) (find-forget-own F L u t a)) (every-forget F (KeyIn F (u ∷ us)) u t h)) in
+      keys-fit us (forget F u t) (ascends-forget F L u t a)
+      (every-both (λ e. sameKey u (e .key) ≡ false) (KeyIn F (u ∷ us)) (KeyIn F us)
+      (λ e d n. or-cases (sameKey (e .key) u) (among F (e .key) us) n (λ s. true-false s (differ-sym F L u (e .key) d)) (λ q. q))
+      (forget F u t) (none-every u (forget F u t) (find-forget-own F L u t a)) (every-forget F (KeyIn F (u ∷ us)) u t h)) in
       cond-cases (λ (ks : List Key). length t ≤ length ks) (among F u us) (once F us) (u ∷ once F us)
       old (λ m. omega (arith, length-forget-least F u t))
 
@@ -242,9 +243,10 @@ module _ (F : Family) where
       → Every (InFields F (λ f. StartIn F us (f .key) (f .act))) os
   unfolding startedRun
   starts-in-run us [] h = tt
-  starts-in-run us (o ∷ os) h =
-      (starts-in-op us o (every-left (λ k. among F k us ≡ true) (startedOp o) (startedRun os) h),
-      starts-in-run us os (every-right (λ k. among F k us ≡ true) (startedOp o) (startedRun os) h))
+  starts-in-run us (o ∷ os) h = (
+    starts-in-op us o (every-left (λ k. among F k us ≡ true) (startedOp o) (startedRun os) h),
+    starts-in-run us os (every-right (λ k. among F k us ≡ true) (startedOp o) (startedRun os) h),
+  )
 
   -- only a start of a key that is not held needs room
   pub unheld-fits : (us : List Key) (r : Bool) (k : Key) (s : State) (a : Act F) → StartIn F us k a → (among F k us ≡ true → r ≡ true)
@@ -285,7 +287,8 @@ module _ (F : Family) (L : Lawful F) where
       record {
         ascend = ascends-step F L t f (h .ascend);
         held = every-step F L (KeyIn F us) t f (keeps-in F us f i) (h .held);
-        enough = h .enough }
+        enough = h .enough;
+      }
 
   pub fits-steps : (us : List Key) (t : List (Entry F)) (fs : List (Said F)) → Fits F us t → Every (λ f. StartIn F us (f .key) (f .act)) fs
       → Fits F us (steps F t fs .0)
@@ -298,7 +301,8 @@ module _ (F : Family) (L : Lawful F) where
       record {
         ascend = ascends-drop-open F L t (h .ascend);
         held = every-drop-open F (KeyIn F us) t (closed-in F us) (h .held);
-        enough = h .enough }
+        enough = h .enough;
+      }
 
   pub fits-forget : (us : List Key) (k : Key) (t : List (Entry F)) → Fits F us t → Fits F us (forget F k t)
   fits-forget us k t h =
@@ -319,7 +323,7 @@ module _ (F : Family) (L : Lawful F) where
   effect-fits us t f h i =
       cases-option (find F (f .key) t)
       (λ n. rw n (unheld-fits F us (ltb (length t) room) (f .key) (f .state) (f .act) i
-          (λ m. room-left F L us t (record { key = f .key; state = f .state; shown = none; draft = none }) (h .ascend) (h .held) (h .enough) m n)))
+      (λ m. room-left F L us t (record { key = f .key; state = f .state; shown = none; draft = none }) (h .ascend) (h .held) (h .enough) m n)))
       (λ e s. rw s)
 
   pub find-step-fits : (us : List Key) (k : Key) (t : List (Entry F)) (f : Said F) → Fits F us t → StartIn F us (f .key) (f .act)

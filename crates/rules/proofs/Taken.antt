@@ -1,21 +1,20 @@
 -- The fields of a taken block. In this order: a walk that reaches the end, step by step, and back; the FIGs of a block and the
 -- fields of a FIG, by their places; that a block has at most 14 fields; what the bits of a field are, of bytes below 256; what
 -- a field of a taken block is besides.
-use Prim.Native.Nat.{ℕ, zero, suc, _+_, _-_, _*_, _/_, _%_, _^_, _≤_, _<_, min}
+use Prim.Native.Nat.{ℕ, zero, suc, _+_, _*_, _/_, _%_, _^_, _≤_, _<_}
 use native.Mathlib.Omega.{arith}
-use native.Mathlib.Nat.{pow-zero, pow-succ', le-mul-of-pos-right, mul-one, mul-assoc, pow-le-pow-right, mul-le-mul-right}
-use native.Mathlib.Numerals.{add-one, add-two}
+use native.Mathlib.Nat.{pow-succ', le-mul-of-pos-right, mul-assoc, pow-le-pow-right}
 use mathlib.Core.Path.{_≡_, refl, sym, _∙_, ap, subst}
-use mathlib.Core.Bool.{Bool, true, false, not, cond, _&&_, _||_}
-use mathlib.Core.List.{List, [], _∷_, _++_, map}
-use lib.ListN.{length, getD, take, drop, length-append, length-take, length-drop, length-map}
+use mathlib.Core.Bool.{Bool, true, false, not, _&&_}
+use mathlib.Core.List.{List, [], _∷_, _++_}
+use lib.ListN.{length, getD, take, drop, length-append, length-take, length-drop}
 use lib.Dec.{leb, ltb, eqb}
-use borrow.Author.Tests.{ltb-true, ltb-false, leb-true, leb-false, eqb-true, eqb-false, eq-eqb, not-false}
+use borrow.Author.Tests.{ltb-true, ltb-false, leb-false, eqb-true, eqb-false, eq-eqb, not-false}
 use Rattle.rules.specs.declared.Outcome.{Outcome}
 use Rattle.rules.specs.Block.{Step, item, end, wrong, Walk, whole, broken, after, walk, Fig, figAt, figs, checkHolds}
-use Rattle.rules.specs.Field.{Field, isLinking, width, bigEndian, identifiers, shortField, listField, listBytes, fieldAt, fieldsOf, keyOf, hasList, isContinuation, wrongValue, emptyStart}
+use Rattle.rules.specs.Field.{Field, isLinking, width, bigEndian, identifiers, shortField, listField, listBytes, fieldAt, fieldsOf, hasList, isContinuation, wrongValue, emptyStart}
 use Rattle.rules.specs.Outcomes.{Verdict, taken, refused, noBlock, joined, allFields, some?, judgeFields, judgeFigs, verdict}
-use Rattle.rules.proofs.Basics.{cases-bool, true-false, or-false-left, or-false-right, or-five, cond-cases, cond-both, Every, every-both, every-append, every-take, every-drop, every-at, every-from}
+use Rattle.rules.proofs.Basics.{cases-bool, or-false-left, or-false-right, or-five, cond-cases, cond-both, Every, every-both, every-append, every-take, every-drop, every-at}
 
 -- ---- walks
 
@@ -73,8 +72,8 @@ module _ {A : Type 0} where
   walk-goes at (suc n) p xs h =
       cases-step (at p)
       (λ a q e. cases-walk (walk at n q)
-          (λ ys w. subst (Goes at p) (whole-is (a ∷ ys) xs (sym (walk-item at n p a q e ∙ ap (after a) w) ∙ h)) (q, e, walk-goes at n q ys w))
-          (λ r w. broken-whole r xs (sym (walk-item at n p a q e ∙ ap (after a) w) ∙ h)))
+      (λ ys w. subst (Goes at p) (whole-is (a ∷ ys) xs (sym (walk-item at n p a q e ∙ ap (after a) w) ∙ h)) (q, e, walk-goes at n q ys w))
+      (λ r w. broken-whole r xs (sym (walk-item at n p a q e ∙ ap (after a) w) ∙ h)))
       (λ e. subst (Goes at p) (whole-is [] xs (sym (walk-end at n p e) ∙ h)) e)
       (λ e. broken-whole p xs (sym (walk-wrong at n p e) ∙ h))
 
@@ -110,13 +109,14 @@ fig-stands : (fib : List ℕ) (p m : ℕ) → length fib ≡ 32 → leb 30 p ≡
     → FigStands fib p (record { type = getD fib p 0 / 32; body = take m (drop (p + 1) fib) }) (p + 1 + m)
 fig-stands fib p m l h z i =
     let s : length (take m (drop (p + 1) fib)) ≡ m =
-        length-take m (drop (p + 1) fib) ∙ omega (arith, length-drop (p + 1) fib, ltb-false 30 (p + 1 + m) i) in
+    length-take m (drop (p + 1) fib) ∙ omega (arith, length-drop (p + 1) fib, ltb-false 30 (p + 1 + m) i) in
     record {
       before = omega (arith, leb-false 30 p h);
       size = omega (arith, eqb-false m 0 z);
       ends = omega arith;
       inside = ltb-false 30 (p + 1 + m) i;
-      part = ap (λ (n : ℕ). take n (drop (p + 1) fib)) (sym s) }
+      part = ap (λ (n : ℕ). take n (drop (p + 1) fib)) (sym s);
+    }
 
 pub fig-item : (fib : List ℕ) (p : ℕ) (fig : Fig) (q : ℕ) → length fib ≡ 32 → figAt fib p ≡ item fig q → FigStands fib p fig q
 unfolding figAt
@@ -182,25 +182,48 @@ length-identifiers w (suc n) bs = ap suc (length-identifiers w n (drop w bs))
 pub identifiers-below : (w n : ℕ) (bs : List ℕ) → Bytes bs → Every (λ x. x < 256 ^ w) (identifiers w n bs)
 unfolding identifiers
 identifiers-below w zero bs b = tt
-identifiers-below w (suc n) bs b =
-    (omega (arith, bigEndian-below 0 1 (take w bs) w (omega arith) (omega (arith, length-take w bs)) (every-take (λ b. b < 256) w bs b)),
-    identifiers-below w n (drop w bs) (every-drop (λ b. b < 256) w bs b))
+identifiers-below w (suc n) bs b = (
+  omega (arith, bigEndian-below 0 1 (take w bs) w (omega arith) (omega (arith, length-take w bs)) (every-take (λ b. b < 256) w bs b)),
+  identifiers-below w n (drop w bs) (every-drop (λ b. b < 256) w bs b),
+)
 
 pub short-bits : (h a b : ℕ) → h < 256 → a < 256 → b < 256 → FieldBits (shortField h a b)
 unfolding shortField
 short-bits h a b p q r =
     record {
-      cn = omega arith; oe = omega arith; pd = omega arith; flag = omega arith; la = omega arith; hard = omega arith; ils = omega arith;
-      lsn = omega arith; rfu = omega arith; qualifier = omega arith; shorthand = omega arith; few = omega arith; within = tt }
+      cn = omega arith;
+      oe = omega arith;
+      pd = omega arith;
+      flag = omega arith;
+      la = omega arith;
+      hard = omega arith;
+      ils = omega arith;
+      lsn = omega arith;
+      rfu = omega arith;
+      qualifier = omega arith;
+      shorthand = omega arith;
+      few = omega arith;
+      within = tt;
+    }
 
 pub list-bits : (h a b c : ℕ) (rest : List ℕ) → h < 256 → a < 256 → b < 256 → c < 256 → Bytes rest → FieldBits (listField h a b c rest)
 unfolding listField
 list-bits h a b c rest p q r s t =
     record {
-      cn = omega arith; oe = omega arith; pd = omega arith; flag = omega arith; la = omega arith; hard = omega arith; ils = omega arith;
-      lsn = omega arith; rfu = omega arith; qualifier = omega arith; shorthand = omega arith;
+      cn = omega arith;
+      oe = omega arith;
+      pd = omega arith;
+      flag = omega arith;
+      la = omega arith;
+      hard = omega arith;
+      ils = omega arith;
+      lsn = omega arith;
+      rfu = omega arith;
+      qualifier = omega arith;
+      shorthand = omega arith;
       few = omega (arith, length-identifiers (width (h / 32 % 2) (a / 16 % 2)) (c % 16) rest);
-      within = identifiers-below (width (h / 32 % 2) (a / 16 % 2)) (c % 16) rest t }
+      within = identifiers-below (width (h / 32 % 2) (a / 16 % 2)) (c % 16) rest t;
+    }
 
 -- a field at a place of a FIG's body: it has two bytes at least, all in the body
 pub record FieldStands (body : List ℕ) (p : ℕ) (f : Field) (q : ℕ) : Type 0 where
@@ -217,19 +240,24 @@ field-item body p f q =
     cond-cases (λ (s : Step Field). s ≡ item f q → FieldStands body p f q) (ltb (length body) (p + 2)) wrong _ (λ t e. wrong-item f q e) (λ t.
     cond-cases (λ (s : Step Field). s ≡ item f q → FieldStands body p f q) (ltb (getD body p 0) 128) _ _
     (λ i e. item-along (FieldStands body p) _ f _ q e
-      (record {
-        before = leb-false (length body) p h; from = omega arith; inside = ltb-false (length body) (p + 2) t;
-        bits = λ b. short-bits (getD body 0 0) (getD body p 0) (getD body (p + 1) 0) (at b 0) (at b p) (at b (p + 1)) }))
+    (record {
+      before = leb-false (length body) p h;
+      from = omega arith;
+      inside = ltb-false (length body) (p + 2) t;
+      bits = λ b. short-bits (getD body 0 0) (getD body p 0) (getD body (p + 1) 0) (at b 0) (at b p) (at b (p + 1));
+    }))
     (λ i.
     cond-cases (λ (s : Step Field). s ≡ item f q → FieldStands body p f q) (ltb (length body) (p + 3)) wrong _ (λ u e. wrong-item f q e) (λ u.
     cond-cases (λ (s : Step Field). s ≡ item f q → FieldStands body p f q)
     (ltb (length body) (p + 3 + listBytes (getD body 0 0) (getD body p 0) (getD body (p + 2) 0))) wrong _ (λ v e. wrong-item f q e)
     (λ v e. item-along (FieldStands body p) _ f _ q e
-      (record {
-        before = leb-false (length body) p h; from = omega arith;
-        inside = ltb-false (length body) (p + 3 + listBytes (getD body 0 0) (getD body p 0) (getD body (p + 2) 0)) v;
-        bits = λ b. list-bits (getD body 0 0) (getD body p 0) (getD body (p + 1) 0) (getD body (p + 2) 0) (drop (p + 3) body)
-          (at b 0) (at b p) (at b (p + 1)) (at b (p + 2)) (every-drop (λ b. b < 256) (p + 3) body b) }))))))
+    (record {
+      before = leb-false (length body) p h;
+      from = omega arith;
+      inside = ltb-false (length body) (p + 3 + listBytes (getD body 0 0) (getD body p 0) (getD body (p + 2) 0)) v;
+      bits = λ b. list-bits (getD body 0 0) (getD body p 0) (getD body (p + 1) 0) (getD body (p + 2) 0) (drop (p + 3) body)
+          (at b 0) (at b p) (at b (p + 1)) (at b (p + 2)) (every-drop (λ b. b < 256) (p + 3) body b);
+    }))))))
 
 -- ---- all fields of a block
 
@@ -266,7 +294,7 @@ all-every P [] h fs = λ e. subst (Every P) (whole-is [] fs e) tt
 all-every P (fig ∷ gs) h fs =
     cond-both (λ (w : Walk Field). w ≡ whole fs → Every P fs) (isLinking fig) (joined (fieldsOf fig) (allFields gs)) (allFields gs)
     (λ e. joined-whole (fieldsOf fig) (allFields gs) fs e
-      (λ xs ys v w q. subst (Every P) (sym q) (every-append P xs ys (h .0 xs v) (all-every P gs (h .1) ys w))))
+    (λ xs ys v w q. subst (Every P) (sym q) (every-append P xs ys (h .0 xs v) (all-every P gs (h .1) ys w))))
     (all-every P gs (h .1) fs)
 
 -- two bytes for each field, and two more for a FIG that has one
@@ -278,12 +306,12 @@ all-fit (fig ∷ gs) h fs =
     cond-both (λ (w : Walk Field). w ≡ whole fs → 1 ≤ length fs → 2 + 2 * length fs ≤ 1 + length (fig .body) + figBytesIn gs)
     (isLinking fig) (joined (fieldsOf fig) (allFields gs)) (allFields gs)
     (λ e l. joined-whole (fieldsOf fig) (allFields gs) fs e
-      (λ xs ys v w q.
-        let n = ap length q ∙ length-append xs ys in
-        let one = fields-fit fig xs (h .0) v in
-        cases-bool (ltb (length ys) 1)
-        (λ z. omega (arith, ltb-true (length ys) 1 z))
-        (λ z. omega (arith, all-fit gs (h .1) ys w (ltb-false (length ys) 1 z)))))
+    (λ xs ys v w q.
+    let n = ap length q ∙ length-append xs ys in
+    let one = fields-fit fig xs (h .0) v in
+    cases-bool (ltb (length ys) 1)
+    (λ z. omega (arith, ltb-true (length ys) 1 z))
+    (λ z. omega (arith, all-fit gs (h .1) ys w (ltb-false (length ys) 1 z)))))
     (λ e l. omega (arith, all-fit gs (h .1) fs e l))
 
 -- ---- a taken block
@@ -312,8 +340,8 @@ fields-taken (whole gs) fs =
     (some? wrongValue gs) _ _ (λ v e. refused-taken _ fs e) (λ v.
     cond-cases (λ (v : Verdict). v ≡ taken fs → (whole gs ≡ whole fs) × (some? wrongValue fs ≡ false) × (some? emptyStart fs ≡ false))
     (some? emptyStart gs) _ _ (λ s e. refused-taken _ fs e) (λ s e.
-      let p : gs ≡ fs = cc in
-      (ap whole p, ap (some? wrongValue) (sym p) ∙ v, ap (some? emptyStart) (sym p) ∙ s)))
+    let p : gs ≡ fs = cc in
+    (ap whole p, ap (some? wrongValue) (sym p) ∙ v, ap (some? emptyStart) (sym p) ∙ s)))
 
 pub figs-taken {ℓ} : {C : Type ℓ} (w : Walk Fig) (fs : List Field) → judgeFigs w ≡ taken fs
     → ((gs : List Fig) → w ≡ whole gs → judgeFields (allFields gs) ≡ taken fs → C) → C
@@ -327,11 +355,18 @@ unfolding verdict
 taken-block fib fs =
     cond-cases (λ (v : Verdict). v ≡ taken fs → TakenBlock fib fs) (eqb (length fib) 32) _ _
     (λ l. cond-cases (λ (v : Verdict). v ≡ taken fs → TakenBlock fib fs) (checkHolds fib) _ _
-      (λ c e. figs-taken (figs fib) fs e (λ gs w j.
-        let r = fields-taken (allFields gs) fs j in
-        record {
-          size = eqb-true (length fib) 32 l; check = c; parts = gs; walked = w; filled = r .0; values = r .1; starts = r .2 }))
-      (λ c e. refused-taken _ fs e))
+    (λ c e. figs-taken (figs fib) fs e (λ gs w j.
+    let r = fields-taken (allFields gs) fs j in
+    record {
+      size = eqb-true (length fib) 32 l;
+      check = c;
+      parts = gs;
+      walked = w;
+      filled = r .0;
+      values = r .1;
+      starts = r .2;
+    }))
+    (λ c e. refused-taken _ fs e))
     (λ l e. noBlock-taken fs e)
 
 -- and back
@@ -352,8 +387,12 @@ taken-few fib fs h =
     let n = figs-inside fib 0 (b .parts) (b .size) (omega arith) g in
     cases-bool (ltb (length fs) 1)
     (λ z. omega (arith, ltb-true (length fs) 1 z))
-    (λ z. omega (arith, n, all-fit (b .parts) (figs-every (λ fig. 1 ≤ length (fig .body)) fib (λ p fig q s. s .size) 0 (b .parts) (b .size) g) fs
-      (b .filled) (ltb-false (length fs) 1 z)))
+    (λ z. omega (
+      arith,
+      n,
+      all-fit (b .parts) (figs-every (λ fig. 1 ≤ length (fig .body)) fib (λ p fig q s. s .size) 0 (b .parts) (b .size) g) fs
+          (b .filled) (ltb-false (length fs) 1 z),
+    ))
 
 -- ---- a field of a taken block
 
@@ -393,7 +432,8 @@ good-field f b v s =
       shorthand = omega (arith, b .shorthand, eqb-false (f .shorthand) 1 (w .2));
       reserved = eqb-false (f .qualifier) 2 (w .3);
       data-dab = data-field f (w .4);
-      start = good-start f s }
+      start = good-start f s;
+    }
 
 -- every field of a taken block of bytes is such
 pub taken-good : (fib : List ℕ) (fs : List Field) → Bytes fib → verdict fib ≡ taken fs → Every GoodField fs
@@ -401,11 +441,11 @@ taken-good fib fs bytes h =
     let b = taken-block fib fs h in
     let g = figs-goes fib (b .parts) (b .walked) in
     let bits : Every FieldBits fs =
-        all-every FieldBits (b .parts)
-        (figs-every (λ fig. (fs : List Field) → fieldsOf fig ≡ whole fs → Every FieldBits fs) fib
-          (λ p fig q s fs. fields-bits fig fs (body-bytes fib p fig q bytes s)) 0 (b .parts) (b .size) g)
-        fs (b .filled) in
+    all-every FieldBits (b .parts)
+    (figs-every (λ fig. (fs : List Field) → fieldsOf fig ≡ whole fs → Every FieldBits fs) fib
+    (λ p fig q s fs. fields-bits fig fs (body-bytes fib p fig q bytes s)) 0 (b .parts) (b .size) g)
+    fs (b .filled) in
     every-both (λ f. wrongValue f ≡ false) (λ f. FieldBits f × (emptyStart f ≡ false)) GoodField (λ f v c. good-field f (c .0) v (c .1)) fs
     (none-of wrongValue fs (b .values))
     (every-both FieldBits (λ f. emptyStart f ≡ false) (λ f. FieldBits f × (emptyStart f ≡ false)) (λ f c s. (c, s)) fs bits
-      (none-of emptyStart fs (b .starts)))
+    (none-of emptyStart fs (b .starts)))

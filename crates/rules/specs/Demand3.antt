@@ -1,11 +1,10 @@
 -- Better reception never contradicts worse: what that promise speaks of. It is proved in proofs/Demand3.antt.
 use Prim.Native.Nat.{ℕ, zero, suc}
 use mathlib.Core.Path.{_≡_}
-use mathlib.Core.Bool.{Bool, true, false, cond, _||_}
+use mathlib.Core.Bool.{Bool, false, cond, _||_}
 use mathlib.Core.List.{List, [], _∷_, _++_, map}
-use mathlib.Core.Option.{Option, none, some}
+use mathlib.Core.Option.{Option, some}
 use lib.ListN.{length}
-use Rattle.rules.specs.declared.Note.{Note}
 use Rattle.rules.specs.declared.Note.the-variants.{ShownAndOpened}
 use Rattle.rules.specs.Block.{checkHolds}
 use Rattle.rules.specs.Family.{Family, Listed, Act, start, continuation, noList, Said, Entry, find, step, forget}
@@ -22,6 +21,7 @@ module _ (F : Family) where
   heldKeys [] = []
   heldKeys (e ∷ es) = e .key ∷ heldKeys es
 
+  -- a start's key in front of other keys
   unfoldable pub ifStart : Act F → Key → List Key → List Key
   ifStart (start l) k ks = k ∷ ks
   ifStart (continuation l) k ks = ks
@@ -32,6 +32,7 @@ module _ (F : Family) where
   startedKeys [] = []
   startedKeys (f ∷ fs) = ifStart (f .act) (f .key) (startedKeys fs)
 
+  -- a key is one of these
   unfoldable pub among : Key → List Key → Bool
   among k [] = false
   among k (l ∷ ls) = sameKey k l || among k ls
@@ -74,6 +75,7 @@ fieldsIn (taken fs) = map said fs
 fieldsIn (refused o) = []
 fieldsIn noBlock = []
 
+-- what the fields of an operation say: of a taken block, in order
 unfoldable pub saidBy : Operation → List (Said linkage)
 saidBy (block fib) = fieldsIn (verdict fib)
 saidBy (forgetting k) = []

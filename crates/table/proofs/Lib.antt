@@ -1,2 +1,4 @@
 pub mod Loops
 pub mod TableLaws
+pub mod Shifts
+pub mod Entries

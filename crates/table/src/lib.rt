@@ -8,9 +8,11 @@ ghost use mathlib.Core.Bool.{Bool, cond};
 ghost use mathlib.Core.List.{[]};
 ghost use lib.ListN.{length, take, drop};
 ghost use lib.Dec.{ltb};
-ghost use Rattle.lists.specs.Stored.{Tested};
+ghost use Prim.Native.Nat.{_<_};
+ghost use mathlib.Core.Bool.{false};
+ghost use Rattle.lists.specs.Stored.{Tested, emptyList};
 ghost use Rattle.table.specs.Stored.{storeTable, EachHolds, NoneFrom, Stored, Given};
-ghost use Rattle.table.specs.Places.{placeIn, keysMeet, allOff};
+ghost use Rattle.table.specs.Places.{placeIn, keysMeet, allOff, opened, shut};
 
 use lists::IdList;
 
@@ -164,4 +166,92 @@ pub fn place_of(keys: &[u32], count: usize, key: u32) -> usize
         i += 1;
     }
     i
+}
+
+// ---- an array with one value more or one less; of each, one for every type of value
+
+fn open_u32(xs: [u32; 32], at: usize, v: u32) -> [u32; 32]
+    requires { ⌜ at < 32 ⌝ }
+    ensures { λ r. ⌜ r ≡ opened at v xs ⌝ }
+{
+    let mut ys = xs;
+    let mut j = at + 1;
+    while j < 32 {
+        ys[j] = xs[j - 1];
+        j += 1;
+    }
+    ys[at] = v;
+    ys
+}
+
+fn open_flag(xs: [bool; 32], at: usize, v: bool) -> [bool; 32]
+    requires { ⌜ at < 32 ⌝ }
+    ensures { λ r. ⌜ r ≡ opened at v xs ⌝ }
+{
+    let mut ys = xs;
+    let mut j = at + 1;
+    while j < 32 {
+        ys[j] = xs[j - 1];
+        j += 1;
+    }
+    ys[at] = v;
+    ys
+}
+
+fn open_list(xs: [IdList; 32], at: usize, v: IdList) -> [IdList; 32]
+    requires { ⌜ at < 32 ⌝ }
+    ensures { λ r. ⌜ r ≡ opened at v xs ⌝ }
+{
+    let mut ys = xs;
+    let mut j = at + 1;
+    while j < 32 {
+        let x = xs[j - 1];
+        ys[j] = x;
+        j += 1;
+    }
+    ys[at] = v;
+    ys
+}
+
+fn shut_u32(xs: [u32; 32], at: usize) -> [u32; 32]
+    requires { ⌜ at < 32 ⌝ }
+    ensures { λ r. ⌜ r ≡ shut at 0 xs ⌝ }
+{
+    let mut ys = xs;
+    let mut j = at;
+    while j < 31 {
+        ys[j] = xs[j + 1];
+        j += 1;
+    }
+    ys[31] = 0;
+    ys
+}
+
+fn shut_flag(xs: [bool; 32], at: usize) -> [bool; 32]
+    requires { ⌜ at < 32 ⌝ }
+    ensures { λ r. ⌜ r ≡ shut at false xs ⌝ }
+{
+    let mut ys = xs;
+    let mut j = at;
+    while j < 31 {
+        ys[j] = xs[j + 1];
+        j += 1;
+    }
+    ys[31] = false;
+    ys
+}
+
+fn shut_list(xs: [IdList; 32], at: usize) -> [IdList; 32]
+    requires { ⌜ at < 32 ⌝ }
+    ensures { λ r. ⌜ r ≡ shut at emptyList xs ⌝ }
+{
+    let mut ys = xs;
+    let mut j = at;
+    while j < 31 {
+        let x = xs[j + 1];
+        ys[j] = x;
+        j += 1;
+    }
+    ys[31] = IdList::empty();
+    ys
 }
