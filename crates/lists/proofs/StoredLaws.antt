@@ -86,7 +86,7 @@ all-zeros : (xs : List ℕ) → length xs ≡ 128 → allZero xs ≡ true → xs
 all-zeros xs l z = zeros-replicate xs z ∙ ap (λ (k : ℕ). replicate k 0) l
 
 -- a set that begins with a DAB service is not empty
-not-none : (ps : List Pair) → firstIsDab ps ≡ true → length ps ≡ 0 → ⊥
+pub not-none : (ps : List Pair) → firstIsDab ps ≡ true → length ps ≡ 0 → ⊥
 unfolding firstIsDab
 not-none [] e z = false≢true e
 not-none (p ∷ ps) e z = omega arith
@@ -263,3 +263,20 @@ tested-empty key l nl kl z zn zk =
           short = omega arith; numbers-end = zn; kinds-end = zk; unnamed = λ q. eqb-true (l .named) 0 e;
           first = λ n. absurd (n z); names = λ n. absurd (n z); pairs = λ n. absurd (n z); differ = λ n. absurd (n z) }) nl kl;
       complete = λ h. eq-eqb _ _ (holds-facts key l h .unnamed z) }
+
+-- ---- the arrays of a list that holds something are 128 long
+
+length-padded : (n : ℕ) (xs : List ℕ) → length xs ≤ n → length (padded n 0 xs) ≡ n
+unfolding padded
+length-padded n xs h = length-append xs (replicate (n - length xs) 0) ∙ rw length-replicate (omega arith)
+
+store-long : (key : ℕ) (o : Option IdSet) → ifThere key o ≡ true → (length (storeMaybe o .numbers) ≡ 128) × (length (storeMaybe o .kinds) ≡ 128)
+unfolding storeMaybe emptyList storeList ifThere
+store-long key none m = (refl, refl)
+store-long key (some l) m =
+    let h : length (l .items) ≤ 128 = set-facts key l m .short in
+    (length-padded 128 (map numberIn (l .items)) (rw length-map h), length-padded 128 (map kindIn (l .items)) (rw length-map h))
+
+pub holds-long : (key : ℕ) (l : IdList) → Holds key l → (length (l .numbers) ≡ 128) × (length (l .kinds) ≡ 128)
+unfolding Holds
+holds-long key l h = subst (λ (x : IdList). (length (x .numbers) ≡ 128) × (length (x .kinds) ≡ 128)) (sym (h .2)) (store-long key (h .0) (h .1))

@@ -33,7 +33,7 @@ place-most [] k = omega arith
 place-most (e ∷ c) k = decide (ltb (keyIn e) k) (λ t. rw t (suc-le-suc (place-most c k))) (λ f. rw f (omega arith))
 
 -- the key stands at its place
-pub Here : Content → ℕ → Type 0
+unfoldable pub Here : Content → ℕ → Type 0
 Here c k = (placeIn (map keyIn c) k < length c) × (getD (map keyIn c) (placeIn (map keyIn c) k) 0 ≡ k)
 
 find-after : (last : ℕ) (c : Content) (k : ℕ) → ascends last c ≡ true → k ≤ last → find linkage k c ≡ none
@@ -151,15 +151,15 @@ map-drop f (suc i) (x ∷ xs) = map-drop f i xs
 
 -- one column of the table: the values `f` of its entries
 module _ {B : Type 0} (f : Held → B) (d : B) (c : Content) (i : ℕ) where
-  column-set : (v : Held) → i < length c → padded 32 d (map f (set c i v)) ≡ set (padded 32 d (map f c)) i (f v)
+  pub column-set : (v : Held) → i < length c → padded 32 d (map f (set c i v)) ≡ set (padded 32 d (map f c)) i (f v)
   column-set v h = ap (padded 32 d) (map-set f c i v) ∙ padded-set 32 d (map f c) i (f v) (rw (length-map c f) h)
 
-  column-opened : (v : Held) → i ≤ length c → length c < 32 → padded 32 d (map f (take i c ++ v ∷ drop i c)) ≡ opened i (f v) (padded 32 d (map f c))
+  pub column-opened : (v : Held) → i ≤ length c → length c < 32 → padded 32 d (map f (take i c ++ v ∷ drop i c)) ≡ opened i (f v) (padded 32 d (map f c))
   column-opened v h l =
       ap (padded 32 d) (map-append f (take i c) (v ∷ drop i c) ∙ ap₂ (λ (a b : List B). a ++ f v ∷ b) (map-take f i c) (map-drop f i c))
       ∙ padded-opened 32 d (map f c) i (f v) (rw (length-map c f) h) (rw (length-map c f) l)
 
-  column-shut : i < length c → length c ≤ 32 → padded 32 d (map f (take i c ++ drop (suc i) c)) ≡ shut i d (padded 32 d (map f c))
+  pub column-shut : i < length c → length c ≤ 32 → padded 32 d (map f (take i c ++ drop (suc i) c)) ≡ shut i d (padded 32 d (map f c))
   column-shut h l =
       ap (padded 32 d) (map-append f (take i c) (drop (suc i) c) ∙ ap₂ _++_ (map-take f i c) (map-drop f (suc i) c))
       ∙ padded-shut 32 d (map f c) i (rw (length-map c f) h) (rw (length-map c f) l)

@@ -75,11 +75,11 @@ map-tabulate f zero g = refl
 map-tabulate f (suc n) g = ap (λ r. f (g zero) ∷ r) (map-tabulate f n (λ k. g (suc k)))
 
 -- the values of a stored array, and what stands after them
-take-padded {ℓ} : {A : Type ℓ} (n : ℕ) (d : A) (xs : List A) (m : ℕ) → length xs ≡ m → take m (padded n d xs) ≡ xs
+pub take-padded {ℓ} : {A : Type ℓ} (n : ℕ) (d : A) (xs : List A) (m : ℕ) → length xs ≡ m → take m (padded n d xs) ≡ xs
 unfolding padded
 take-padded {A = A} n d xs m e = subst (λ (k : ℕ). take k (xs ++ replicate (n - length xs) d) ≡ xs) e (take-append-seam xs (replicate (n - length xs) d))
 
-drop-padded {ℓ} : {A : Type ℓ} (n : ℕ) (d : A) (xs : List A) (m : ℕ) → length xs ≡ m → drop m (padded n d xs) ≡ replicate (n - m) d
+pub drop-padded {ℓ} : {A : Type ℓ} (n : ℕ) (d : A) (xs : List A) (m : ℕ) → length xs ≡ m → drop m (padded n d xs) ≡ replicate (n - m) d
 unfolding padded
 drop-padded {A = A} n d xs m e =
     subst (λ (k : ℕ). drop k (xs ++ replicate (n - length xs) d) ≡ replicate (n - k) d) e (drop-append-seam xs (replicate (n - length xs) d))

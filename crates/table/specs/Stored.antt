@@ -1,13 +1,15 @@
 -- The one stored form of a table's content (document 01, Collecting), and what a function owes of a table that it is given.
-use Prim.Native.Nat.{ℕ, _≤_, _<_}
+use Prim.Native.Nat.{ℕ, _+_, _≤_, _<_}
 use mathlib.Core.Path.{_≡_}
-use mathlib.Core.Bool.{Bool, true, false}
+use mathlib.Core.Bool.{Bool, true, false, cond, _&&_}
 use mathlib.Core.List.{List, [], map}
 use lib.ListN.{length, getD}
+use lib.Dec.{ltb}
 use Rattle.rules.specs.Collecting.{Held, Content, meets}
 use Rattle.lists.specs.declared.IdList.{IdList}
 use Rattle.lists.specs.Stored.{padded, emptyList, storeMaybe, Holds}
 use Rattle.table.specs.declared.Table.{Table}
+use Rattle.table.specs.Places.{opened}
 
 unfoldable pub keyIn : Held → ℕ
 keyIn e = e .key
@@ -39,6 +41,15 @@ EachHolds keys ls = (i : ℕ) → i < 32 → Holds (getD keys i 0) (getD ls i pa
 -- there is no list from a place on
 unfoldable pub NoneFrom : ℕ → List IdList → Type 0
 NoneFrom from ls = (i : ℕ) → i < 32 → from ≤ i → getD ls i past .len ≡ 0
+
+-- a table with one key more at a place, its list open and no set shown; the same table where there is no such place
+unfoldable pub openedTable : Table → ℕ → ℕ → Bool → IdList → Table
+openedTable t at key on l =
+    cond (ltb at 32 && ltb (t .count) 32)
+    (record {
+      count = t .count + 1; keys = opened at key (t .keys); on = opened at on (t .on);
+      shown = opened at emptyList (t .shown); draft = opened at l (t .draft) })
+    t
 
 -- a table is the stored form of a content that meets the rules
 unfoldable pub Stored : Table → Type 0

@@ -8,13 +8,16 @@ ghost use mathlib.Core.Bool.{Bool, cond};
 ghost use mathlib.Core.List.{[]};
 ghost use lib.ListN.{length, take, drop};
 ghost use lib.Dec.{ltb};
-ghost use Prim.Native.Nat.{_<_};
+ghost use Prim.Native.Nat.{_<_, _≤_};
 ghost use mathlib.Core.Bool.{false};
 ghost use Rattle.lists.specs.Stored.{Tested, emptyList};
-ghost use Rattle.table.specs.Stored.{storeTable, EachHolds, NoneFrom, Stored, Given};
+ghost use Rattle.table.specs.Stored.{storeTable, EachHolds, NoneFrom, Stored, Given, openedTable};
+ghost use Rattle.table.specs.Answers.{forgottenAs, copiedAs};
+ghost use Rattle.rules.specs.Outcomes.{copyOut, notCopied, overwritten};
 ghost use Rattle.table.specs.Places.{placeIn, keysMeet, allOff, opened, shut};
 
 use lists::IdList;
+use rules::Outcome;
 
 // The entries of the held keys, in ascending key order from place 0 on: key, on or off, shown set and
 // open list. Every unused place is zero.
@@ -254,4 +257,144 @@ fn shut_list(xs: [IdList; 32], at: usize) -> [IdList; 32]
     }
     ys[31] = IdList::empty();
     ys
+}
+
+impl Table {
+    // With one key more at a place, its list open and no set shown; the same table where there is no
+    // such place. The caller gives the place that keeps the keys ascending.
+    pub fn opened_at(self, at: usize, key: u32, on: bool, list: IdList) -> Self
+        ensures { λ r. ⌜ r ≡ openedTable self at key on list ⌝ }
+    {
+        let count = self.count;
+        if 32 <= at {
+            return self;
+        }
+        if 32 <= count {
+            return self;
+        }
+        let keys = self.keys;
+        let flags = self.on;
+        let shown = self.shown;
+        let draft = self.draft;
+        Self {
+            count: count + 1,
+            keys: open_u32(keys, at, key),
+            on: open_flag(flags, at, on),
+            shown: open_list(shown, at, IdList::empty()),
+            draft: open_list(draft, at, list),
+        }
+    }
+}
+
+// ---- forgetting
+
+// What forgetting a key answers and leaves.
+pub struct Forgotten {
+    pub outcome: Outcome,
+    pub table: Table,
+}
+
+// Forgets a key, all of it: 9, then 7, each with the table as it was.
+pub fn forget_key(table: Table, key: u32) -> Forgotten
+    ensures { λ r. ⌜ Given table (λ c. r ≡ forgottenAs key c) (r ≡ record { outcome = Outcome.WrongTable; table = table }) ⌝ }
+{
+    if !table.meets() {
+        return Forgotten { outcome: Outcome::WrongTable, table };
+    }
+    let count = table.count;
+    let at = place_of(&table.keys, count, key);
+    if count <= at {
+        return Forgotten { outcome: Outcome::NotHeld, table };
+    }
+    if table.keys[at] != key {
+        return Forgotten { outcome: Outcome::NotHeld, table };
+    }
+    let keys = table.keys;
+    let flags = table.on;
+    let shown = table.shown;
+    let draft = table.draft;
+    let left = Table {
+        count: count - 1,
+        keys: shut_u32(keys, at),
+        on: shut_flag(flags, at),
+        shown: shut_list(shown, at),
+        draft: shut_list(draft, at),
+    };
+    Forgotten { outcome: Outcome::Done, table: left }
+}
+
+// ---- copying out
+
+// The first `n` of these numbers to the front of a lent buffer.
+fn copy_u32(from: &[u32], n: usize, to: &mut [u32])
+    requires { ⌜ (n ≤ length (now from)) × (n ≤ length (now to)) ⌝ }
+    ensures { λ r. ⌜ now (to .exit) ≡ overwritten (take n (now (from .entry))) (now (to .entry)) ⌝ }
+{
+    let mut i = 0;
+    while i < n {
+        to[i] = from[i];
+        i += 1;
+    }
+}
+
+// The same for bytes.
+fn copy_u8(from: &[u8], n: usize, to: &mut [u8])
+    requires { ⌜ (n ≤ length (now from)) × (n ≤ length (now to)) ⌝ }
+    ensures { λ r. ⌜ now (to .exit) ≡ overwritten (take n (now (from .entry))) (now (to .entry)) ⌝ }
+{
+    let mut i = 0;
+    while i < n {
+        to[i] = from[i];
+        i += 1;
+    }
+}
+
+// What copying a set out answers; the identifiers go into the lent buffers.
+pub struct Copied {
+    pub outcome: Outcome,
+    pub key: u32,
+    pub on: bool,
+    pub named: u8,
+    pub count: usize,
+}
+
+// The answer where nothing is copied.
+fn not_copied(outcome: Outcome) -> Copied
+    ensures { λ r. ⌜ r ≡ record { outcome = outcome; key = 0; on = Bool.false; named = 0; count = 0 } ⌝ }
+{
+    Copied { outcome, key: 0, on: false, named: 0, count: 0 }
+}
+
+// Copies a shown set out: its key, on or off, named kinds and count, the numbers and the kinds of its
+// identifiers to the front of two lent buffers. 9, then 7, 11 and 8 (either buffer), with both as they were.
+pub fn copy_out(table: Table, key: u32, numbers: &mut [u32], kinds: &mut [u8]) -> Copied
+    ensures { λ r. ⌜ Given table
+        (λ c. copiedAs r (now (numbers .exit)) (now (kinds .exit)) ≡ copyOut key c (now (numbers .entry)) (now (kinds .entry)))
+        (copiedAs r (now (numbers .exit)) (now (kinds .exit)) ≡ notCopied Outcome.WrongTable (now (numbers .entry)) (now (kinds .entry))) ⌝ }
+{
+    if !table.meets() {
+        return not_copied(Outcome::WrongTable);
+    }
+    let count = table.count;
+    let at = place_of(&table.keys, count, key);
+    if count <= at {
+        return not_copied(Outcome::NotHeld);
+    }
+    if table.keys[at] != key {
+        return not_copied(Outcome::NotHeld);
+    }
+    let set = table.shown[at];
+    let len = set.len;
+    if len == 0 {
+        return not_copied(Outcome::NotShown);
+    }
+    if numbers.len() < len {
+        return not_copied(Outcome::ShortBuffer);
+    }
+    if kinds.len() < len {
+        return not_copied(Outcome::ShortBuffer);
+    }
+    copy_u32(&set.numbers, len, numbers);
+    copy_u8(&set.kinds, len, kinds);
+    Copied { outcome: Outcome::Done, key, on: table.on[at], named: set.named, count: len }
 }
