@@ -6,12 +6,15 @@ ghost use mathlib.Core.Path.{_≡_};
 ghost use mathlib.Core.Bool.{Bool};
 ghost use lib.Dec.{ltb};
 ghost use Prim.Native.Nat.{_^_};
-ghost use Prim.Native.Nat.{min};
+ghost use Prim.Native.Nat.{min, max};
 ghost use lib.ListN.{length, drop};
-ghost use Rattle.rules.specs.Field.{pair};
+ghost use Rattle.rules.specs.Field.{pair, namedBy};
 ghost use Rattle.rules.specs.Family.{member};
-ghost use Rattle.rules.specs.Collecting.{linkage, keyWidth, kindNamed, namesMeet, pairsMeet, allDiffer};
+ghost use Rattle.rules.specs.Collecting.{linkage, joinNames, keyWidth, kindNamed, namesMeet, pairsMeet, allDiffer};
+ghost use Rattle.lists.specs.Grown.{withField};
 ghost use Rattle.lists.specs.Stored.{emptyList, pairsIn, allZero, Holds, Tested};
+
+use field::Field;
 
 // Numbers and kinds of `len` identifiers, in order, and the kinds that the list names: 1 RDS plus
 // 2 DRM or AMSS. Every place past them is zero. Length 0 means that there is no list.
@@ -203,5 +206,68 @@ impl IdList {
             return false;
         }
         all_differ(&self.numbers, &self.kinds, len)
+    }
+}
+
+// ---- adding a field's identifiers
+
+// What adding hands back: whether all fit, and the list with them; or no list.
+pub struct Grown {
+    pub fits: bool,
+    pub list: IdList,
+}
+
+// The kinds that a list with this qualifier names.
+pub fn named_by(qualifier: u8) -> u8
+    ensures { λ r. ⌜ r ≡ namedBy qualifier ⌝ }
+{
+    if qualifier == 1 {
+        1
+    } else if qualifier == 3 {
+        2
+    } else {
+        0
+    }
+}
+
+fn larger(a: u8, b: u8) -> u8
+    ensures { λ r. ⌜ r ≡ max a b ⌝ }
+{
+    if a < b { b } else { a }
+}
+
+// The named kinds of two lists together.
+pub fn join_names(a: u8, b: u8) -> u8
+    ensures { λ r. ⌜ r ≡ joinNames a b ⌝ }
+{
+    larger(a % 2, b % 2) + 2 * larger(a / 2, b / 2)
+}
+
+impl IdList {
+    // With the identifiers of a field at its end, in order, each once, and the kinds that it names. A
+    // list that would grow beyond 128 is handed back as none.
+    pub fn with_field(self, body: &[u8], f: Field) -> Grown
+        ensures { λ r. ⌜ r ≡ withField self (now (body .entry)) f ⌝ }
+    {
+        let mut next = self;
+        next.named = join_names(self.named, named_by(f.qualifier));
+        let count = f.count;
+        let mut i = 0;
+        while i < count {
+            let id = f.identifier(body, i);
+            let kind = id.kind();
+            let number = id.number();
+            let len = next.len;
+            if !stands_in(&next.numbers, &next.kinds, 0, len, kind, number) {
+                if 128 <= len {
+                    return Grown { fits: false, list: IdList::empty() };
+                }
+                next.numbers[len] = number;
+                next.kinds[len] = kind;
+                next.len = len + 1;
+            }
+            i += 1;
+        }
+        Grown { fits: true, list: next }
     }
 }
