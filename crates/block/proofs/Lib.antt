@@ -1,0 +1,4 @@
+-- The laws above the definitions of specs/.
+pub mod Verdicts
+pub mod Placing
+pub mod Loops

@@ -1,0 +1,174 @@
+-- A field of a held key on the stored form, case by case: on or off alone; a continuation with no open list, with one that
+-- grows, with one that grows too long; a start with no open list and with one.
+use Prim.Native.Nat.{ℕ, _≤_, _<_}
+use native.Mathlib.Omega.{arith}
+use mathlib.Core.Path.{_≡_, refl, sym, ap, ap₂, _∙_, subst}
+use mathlib.Core.Bool.{Bool, true, false, cond, true≢false, false≢true}
+use mathlib.Core.List.{List}
+use mathlib.Core.Option.{Option, none, some}
+use lib.ListN.{length, getD}
+use lib.Dec.{leb}
+use Rattle.rules.specs.declared.Note.{Note}
+use Rattle.rules.specs.declared.Note.the-variants.{Opened, ShownAndOpened, Added, NoOpenList, TooLong, StateOnly}
+use Rattle.rules.specs.Field.{hasList, isContinuation}
+use Rattle.rules.specs.Family.{Entry, Act, start, continuation, noList, entryWith, started, continued, onHeld, extended, opening}
+use Rattle.rules.specs.Collecting.{linkage, IdSet, Held, brings, actOf, ifThere}
+use Rattle.field.specs.declared.Field.{Field}
+use Rattle.field.specs.declared.FieldStep.the-variants.{Found}
+use Rattle.field.specs.FieldStep.{fieldStepAt, meaning, hasListIn, continues}
+use Rattle.field.proofs.Laws.{InBody, fieldStepAt-range, has-list-means, is-continuation-means}
+use Rattle.lists.specs.declared.IdList.{IdList}
+use Rattle.lists.specs.declared.Grown.{Grown}
+use Rattle.lists.specs.Stored.{storeList, emptyList, storeMaybe}
+use Rattle.lists.specs.Grown.{withField, grownAs}
+use Rattle.lists.proofs.Pairs.{decide}
+use Rattle.lists.proofs.StoredLaws.{not-none, set-facts}
+use Rattle.lists.proofs.GrownLaws.{with-store, with-none}
+use Rattle.reading.specs.declared.Stepped.{Stepped}
+use Rattle.reading.specs.Steps.{steppedAs}
+
+-- a stored list is not empty
+some-long : (k : ℕ) (d : IdSet) → ifThere k (some d) ≡ true → storeMaybe (some d) .len ≡ 0 → ⊥
+unfolding ifThere storeMaybe storeList
+some-long k d m z = not-none (d .items) (set-facts k d m .first) z
+
+-- ---- what the field asks for
+
+module _ (body : List ℕ) (f : Field) where
+  act-none : hasListIn f ≡ false → actOf (meaning body f) ≡ noList
+  unfolding actOf
+  act-none h = rw (sym (has-list-means body f) ∙ h)
+
+  act-more : hasListIn f ≡ true → continues f ≡ true → actOf (meaning body f) ≡ continuation (brings (meaning body f))
+  unfolding actOf
+  act-more h c = rw (sym (has-list-means body f) ∙ h, sym (is-continuation-means body f) ∙ c)
+
+  act-start : hasListIn f ≡ true → continues f ≡ false → actOf (meaning body f) ≡ start (brings (meaning body f))
+  unfolding actOf
+  act-start h c = rw (sym (has-list-means body f) ∙ h, sym (is-continuation-means body f) ∙ c)
+
+-- ---- what becomes of the entry
+
+module _ (body : List ℕ) (f : Field) (r : InBody body f) (q : f .qualifier ≡ 2 → ⊥) (e : Held) (s : Bool) (k : ℕ) where
+  more-none : (o : Option IdSet) → ifThere k o ≡ true → storeMaybe o .len ≡ 0
+      → record { shown = storeMaybe (e .shown); draft = storeMaybe o; note = NoOpenList } ≡ steppedAs (continued linkage e s (brings (meaning body f)) o)
+  unfolding continued entryWith steppedAs
+  more-none none m z = refl
+  more-none (some d) m z = absurd (some-long k d m z)
+
+  -- the list with a continuation, in the rules' words
+  longer : IdSet → IdSet
+  longer d = extended linkage d (brings (meaning body f))
+
+  grown-fits : (d : IdSet) (g : Grown) → length (d .items) ≤ 128 → g ≡ withField (storeList d) body f → leb (length (longer d .items)) 128 ≡ true
+      → g ≡ record { fits = true; list = storeList (longer d) }
+  unfolding longer grownAs
+  grown-fits d g h w l = w ∙ with-store body f r q d h ∙ rw l
+
+  grown-not : (d : IdSet) (g : Grown) → length (d .items) ≤ 128 → g ≡ withField (storeList d) body f → leb (length (longer d .items)) 128 ≡ false
+      → g ≡ record { fits = false; list = emptyList }
+  unfolding longer grownAs
+  grown-not d g h w l = w ∙ with-store body f r q d h ∙ rw l
+
+  continued-fits : (d : IdSet) → leb (length (longer d .items)) 128 ≡ true
+      → record { shown = storeMaybe (e .shown); draft = storeList (longer d); note = Added } ≡ steppedAs (continued linkage e s (brings (meaning body f)) (some d))
+  unfolding longer continued entryWith steppedAs storeMaybe
+  continued-fits d l = rw l
+
+  continued-not : (d : IdSet) → leb (length (longer d .items)) 128 ≡ false
+      → record { shown = storeMaybe (e .shown); draft = emptyList; note = TooLong } ≡ steppedAs (continued linkage e s (brings (meaning body f)) (some d))
+  unfolding longer continued entryWith steppedAs storeMaybe
+  continued-not d l = rw l
+
+  short : (d : IdSet) → ifThere k (some d) ≡ true → length (d .items) ≤ 128
+  unfolding ifThere
+  short d m = set-facts k d m .short
+
+  more-fits : (o : Option IdSet) (g : Grown) → ifThere k o ≡ true → (storeMaybe o .len ≡ 0 → ⊥) → g ≡ withField (storeMaybe o) body f → g .fits ≡ true
+      → record { shown = storeMaybe (e .shown); draft = g .list; note = Added } ≡ steppedAs (continued linkage e s (brings (meaning body f)) o)
+  unfolding storeMaybe emptyList
+  more-fits none g m n w t = absurd (n refl)
+  more-fits (some d) g m n w t =
+      decide (leb (length (longer d .items)) 128)
+      (λ l. ap (λ (x : Grown). record { shown = storeMaybe (e .shown); draft = x .list; note = Added }) (grown-fits d g (short d m) w l) ∙ continued-fits d l)
+      (λ l. absurd (false≢true (sym (ap (λ (x : Grown). x .fits) (grown-not d g (short d m) w l)) ∙ t)))
+
+  more-not : (o : Option IdSet) (g : Grown) → ifThere k o ≡ true → (storeMaybe o .len ≡ 0 → ⊥) → g ≡ withField (storeMaybe o) body f → g .fits ≡ false
+      → record { shown = storeMaybe (e .shown); draft = g .list; note = TooLong } ≡ steppedAs (continued linkage e s (brings (meaning body f)) o)
+  unfolding storeMaybe emptyList
+  more-not none g m n w t = absurd (n refl)
+  more-not (some d) g m n w t =
+      decide (leb (length (longer d .items)) 128)
+      (λ l. absurd (true≢false (sym (ap (λ (x : Grown). x .fits) (grown-fits d g (short d m) w l)) ∙ t)))
+      (λ l. ap (λ (x : Grown). record { shown = storeMaybe (e .shown); draft = x .list; note = TooLong }) (grown-not d g (short d m) w l) ∙ continued-not d l)
+
+  -- a start, with the new list as it is stored
+  start-none : (o : Option IdSet) (g : Grown) → ifThere k o ≡ true → storeMaybe o .len ≡ 0 → g ≡ withField emptyList body f
+      → record { shown = storeMaybe (e .shown); draft = g .list; note = Opened } ≡ steppedAs (started linkage e s (brings (meaning body f)) o)
+  unfolding started entryWith steppedAs storeMaybe
+  start-none none g m z w = ap (λ (x : Grown). record { shown = storeMaybe (e .shown); draft = x .list; note = Opened }) (w ∙ with-none body f r q)
+  start-none (some d) g m z w = absurd (some-long k d m z)
+
+  start-some : (o : Option IdSet) (g : Grown) → (storeMaybe o .len ≡ 0 → ⊥) → g ≡ withField emptyList body f
+      → record { shown = storeMaybe o; draft = g .list; note = ShownAndOpened } ≡ steppedAs (started linkage e s (brings (meaning body f)) o)
+  unfolding started entryWith steppedAs storeMaybe emptyList
+  start-some none g n w = absurd (n refl)
+  start-some (some d) g n w = ap (λ (x : Grown). record { shown = storeList d; draft = x .list; note = ShownAndOpened }) (w ∙ with-none body f r q)
+
+-- ---- the field's step, as the code takes it
+
+module _ (body : List ℕ) (f : Field) (bytes : (i : ℕ) → getD body i 0 < 256) (e : Held) (s : Bool) (place next : ℕ) (fd : fieldStepAt body place ≡ Found f next)
+    (q : f .qualifier ≡ 2 → ⊥) (m : ifThere (e .key) (e .draft) ≡ true) (shown draft : IdList) (es : shown ≡ storeMaybe (e .shown)) (ed : draft ≡ storeMaybe (e .draft)) where
+  inside : InBody body f
+  inside = fieldStepAt-range body place f next bytes fd .field
+
+  -- the step that the act makes is the step of the field
+  by-act : (a : Act linkage) (x : Stepped) → actOf (meaning body f) ≡ a → x ≡ steppedAs (onHeld linkage e s a) → x ≡ steppedAs (onHeld linkage e s (actOf (meaning body f)))
+  by-act a x p y = y ∙ ap (λ (b : Act linkage). steppedAs (onHeld linkage e s b)) (sym p)
+
+  len-is : draft .len ≡ storeMaybe (e .draft) .len
+  len-is = ap (λ (l : IdList). l .len) ed
+
+  pub step-state : hasListIn f ≡ false → record { shown = shown; draft = draft; note = StateOnly } ≡ steppedAs (onHeld linkage e s (actOf (meaning body f)))
+  unfolding onHeld entryWith steppedAs
+  step-state h = by-act noList _ (act-none body f h) (λ i. record { shown = es i; draft = ed i; note = StateOnly })
+
+  pub step-none : hasListIn f ≡ true → continues f ≡ true → draft .len ≡ 0
+      → record { shown = shown; draft = draft; note = NoOpenList } ≡ steppedAs (onHeld linkage e s (actOf (meaning body f)))
+  unfolding onHeld
+  step-none h c z =
+      by-act (continuation (brings (meaning body f))) _ (act-more body f h c)
+      ((λ i. record { shown = es i; draft = ed i; note = NoOpenList }) ∙ more-none body f inside q e s (e .key) (e .draft) m (sym len-is ∙ z))
+
+  module _ (g : Grown) where
+    pub step-added : hasListIn f ≡ true → continues f ≡ true → (draft .len ≡ 0 → ⊥) → g ≡ withField draft body f → g .fits ≡ true
+        → record { shown = shown; draft = g .list; note = Added } ≡ steppedAs (onHeld linkage e s (actOf (meaning body f)))
+    unfolding onHeld
+    step-added h c n w t =
+        by-act (continuation (brings (meaning body f))) _ (act-more body f h c)
+        ((λ i. record { shown = es i; draft = g .list; note = Added })
+        ∙ more-fits body f inside q e s (e .key) (e .draft) g m (λ z. n (len-is ∙ z)) (w ∙ ap (λ (l : IdList). withField l body f) ed) t)
+
+    pub step-long : hasListIn f ≡ true → continues f ≡ true → (draft .len ≡ 0 → ⊥) → g ≡ withField draft body f → g .fits ≡ false
+        → record { shown = shown; draft = g .list; note = TooLong } ≡ steppedAs (onHeld linkage e s (actOf (meaning body f)))
+    unfolding onHeld
+    step-long h c n w t =
+        by-act (continuation (brings (meaning body f))) _ (act-more body f h c)
+        ((λ i. record { shown = es i; draft = g .list; note = TooLong })
+        ∙ more-not body f inside q e s (e .key) (e .draft) g m (λ z. n (len-is ∙ z)) (w ∙ ap (λ (l : IdList). withField l body f) ed) t)
+
+    pub step-opened : hasListIn f ≡ true → continues f ≡ false → draft .len ≡ 0 → (l : IdList) → l ≡ emptyList → g ≡ withField l body f
+        → record { shown = shown; draft = g .list; note = Opened } ≡ steppedAs (onHeld linkage e s (actOf (meaning body f)))
+    unfolding onHeld
+    step-opened h c z l p w =
+        by-act (start (brings (meaning body f))) _ (act-start body f h c)
+        ((λ i. record { shown = es i; draft = g .list; note = Opened })
+        ∙ start-none body f inside q e s (e .key) (e .draft) g m (sym len-is ∙ z) (w ∙ ap (λ (x : IdList). withField x body f) p))
+
+    pub step-shown : hasListIn f ≡ true → continues f ≡ false → (draft .len ≡ 0 → ⊥) → (l : IdList) → l ≡ emptyList → g ≡ withField l body f
+        → record { shown = draft; draft = g .list; note = ShownAndOpened } ≡ steppedAs (onHeld linkage e s (actOf (meaning body f)))
+    unfolding onHeld
+    step-shown h c n l p w =
+        by-act (start (brings (meaning body f))) _ (act-start body f h c)
+        ((λ i. record { shown = ed i; draft = g .list; note = ShownAndOpened })
+        ∙ start-some body f inside q e s (e .key) (e .draft) g (λ z. n (len-is ∙ z)) (w ∙ ap (λ (x : IdList). withField x body f) p))
