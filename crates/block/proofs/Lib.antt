@@ -1,4 +1,0 @@
--- The laws above the definitions of specs/.
-pub mod Verdicts
-pub mod Placing
-pub mod Loops

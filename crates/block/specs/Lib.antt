@@ -1,3 +1,0 @@
--- What the answers of this crate mean by the rules.
-pub mod Judged
-pub mod Faults

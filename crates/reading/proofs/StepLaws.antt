@@ -1,0 +1,138 @@
+-- One field on a table's stored form: what the rules' step is at a held key's place, at a new key's place, and where nothing
+-- changes; each with the table that the code makes.
+use Prim.Native.Nat.{ℕ, zero, suc, _+_, _-_, _<_, _≤_}
+use native.Mathlib.Omega.{arith}
+use mathlib.Core.Path.{_≡_, refl, sym, ap, ap₂, _∙_, subst}
+use mathlib.Core.Bool.{Bool, true, false, not, cond, _&&_}
+use mathlib.Core.List.{List, [], _∷_, _++_, map}
+use mathlib.Core.Option.{Option, none, some}
+use lib.ListN.{length, getD, set, take, drop, length-map, length-append, length-take, length-drop, length-set}
+use lib.Dec.{ltb, leb, eqb}
+use lib.Seq.{map-set-same, length-take-le}
+use native.Mathlib.Nat.{le-of-suc-le-suc, not-suc-le-zero}
+use borrow.Author.Tests.{lt-ltb, le-ltb}
+use Rattle.rules.specs.declared.Note.{Note}
+use Rattle.rules.specs.declared.Note.the-variants.{Opened, Full, UnknownKey}
+use Rattle.rules.specs.Field.{Field as FieldOf, keyOf}
+use Rattle.rules.specs.Family.{Listed, Act, start, continuation, noList, Entry, Said, entryWith, started, continued, onHeld, fresh, onUnheld, kept, effect, find, replace, insert, store, step, opening, extended}
+use Rattle.rules.specs.Collecting.{linkage, IdSet, Held, Content, brings, actOf, said, ascends}
+use Rattle.rules.proofs.FamilyLaws.{onHeld-key}
+use Rattle.lists.specs.declared.IdList.{IdList}
+use Rattle.lists.specs.Stored.{padded, storeList, emptyList, storeMaybe}
+use Rattle.lists.proofs.Pairs.{decide}
+use Rattle.table.specs.declared.Table.{Table}
+use Rattle.table.specs.Stored.{keyIn, onIn, shownIn, draftIn, storeTable, openedTable}
+use Rattle.table.specs.Places.{placeIn, opened}
+use Rattle.table.proofs.Entries.{Here, noEntry, place-most, find-here, find-not-here, replace-here, insert-here, column-set, column-opened}
+
+-- ---- what a field of a held key sets
+
+module _ (e : Held) (s : Bool) where
+  started-state : (l : IdSet) (o : Option IdSet) → started linkage e s l o .0 .state ≡ s
+  unfolding started entryWith
+  started-state l none = refl
+  started-state l (some d) = refl
+
+  continued-state : (l : IdSet) (o : Option IdSet) → continued linkage e s l o .0 .state ≡ s
+  unfolding continued entryWith
+  continued-state l none = refl
+  continued-state l (some d) = decide (leb (length (extended linkage d l .items)) 128) (λ b. rw b) (λ b. rw b)
+
+  pub held-state : (a : Act linkage) → onHeld linkage e s a .0 .state ≡ s
+  unfolding onHeld entryWith
+  held-state (start l) = started-state l (e .draft)
+  held-state (continuation l) = continued-state l (e .draft)
+  held-state noList = refl
+
+-- ---- a held key
+
+-- the entry at the key's place
+abbrev pub at' : Content → ℕ → Held
+at' c k = getD c (placeIn (map keyIn c) k) noEntry
+
+-- the table with an entry's set, list and state stored at a place
+unfoldable pub setAt : Table → ℕ → Bool → IdList → IdList → Table
+setAt t i on shown draft =
+    record { count = t .count; keys = t .keys; on = set (t .on) i on; shown = set (t .shown) i shown; draft = set (t .draft) i draft }
+
+key-at' : (c : Content) (k : ℕ) → Here c k → at' c k .key ≡ k
+unfolding Here keyIn
+key-at' c k h = sym (getD-map c (placeIn (map keyIn c) k) (h .0)) ∙ h .1
+  where
+    getD-map : (c : Content) (i : ℕ) → i < length c → getD (map keyIn c) i 0 ≡ getD c i noEntry .key
+    getD-map [] i l = absurd (not-suc-le-zero l)
+    getD-map (x ∷ c) zero l = refl
+    getD-map (x ∷ c) (suc i) l = getD-map c i (le-of-suc-le-suc l)
+
+set-same : (c : Content) (i : ℕ) (e : Held) → e .key ≡ getD c i noEntry .key → map keyIn (set c i e) ≡ map keyIn c
+unfolding keyIn
+set-same c i e p = map-set-same keyIn c i e noEntry p
+
+pub store-set : (c : Content) (i : ℕ) (e : Held) → i < length c → e .key ≡ getD c i noEntry .key
+    → storeTable (set c i e) ≡ setAt (storeTable c) i (e .state) (storeMaybe (e .shown)) (storeMaybe (e .draft))
+unfolding storeTable setAt onIn shownIn draftIn
+store-set c i e h p =
+    let n = length-set c i e in
+    let ks = ap (padded 32 0) (set-same c i e p) in
+    let os = column-set onIn false c i e h in
+    let ss = column-set shownIn emptyList c i e h in
+    let ds = column-set draftIn emptyList c i e h in
+    λ j. record { count = n j; keys = ks j; on = os j; shown = ss j; draft = ds j }
+
+-- the step of the rules
+pub step-here : (c : Content) (g : FieldOf) → Here c (keyOf g)
+    → step linkage c (said g)
+      ≡ (set c (placeIn (map keyIn c) (keyOf g)) (onHeld linkage (at' c (keyOf g)) (eqb (g .la) 1) (actOf g) .0),
+        onHeld linkage (at' c (keyOf g)) (eqb (g .la) 1) (actOf g) .1)
+unfolding step said effect kept store
+step-here c g h =
+    let e = onHeld linkage (at' c (keyOf g)) (eqb (g .la) 1) (actOf g) in
+    let key' : e .0 .key ≡ keyOf g = onHeld-key linkage (at' c (keyOf g)) (eqb (g .la) 1) (actOf g) ∙ key-at' c (keyOf g) h in
+    rw (find-here c (keyOf g) h)
+    (ap (λ (t : Content). (t, e .1))
+      (replace-here c (e .0) (subst (Here c) (sym key') h) ∙ ap (λ (k : ℕ). set c (placeIn (map keyIn c) k) (e .0)) key'))
+
+-- ---- a key that is not held
+
+-- a new key with a set to open, and room for it
+pub step-new : (c : Content) (g : FieldOf) → ascends 0 c ≡ true → (Here c (keyOf g) → ⊥) → actOf g ≡ start (brings g) → length c < 32
+    → step linkage c (said g) ≡ (insert linkage (fresh linkage (keyOf g) (eqb (g .la) 1) (brings g)) c, Opened)
+unfolding step said effect store onUnheld
+step-new c g a n s h = rw (find-not-here 0 c (keyOf g) a n, s, lt-ltb (length c) 32 h)
+
+-- the table is full
+pub step-full : (c : Content) (g : FieldOf) → ascends 0 c ≡ true → (Here c (keyOf g) → ⊥) → actOf g ≡ start (brings g) → 32 ≤ length c
+    → step linkage c (said g) ≡ (c, Full)
+unfolding step said effect store onUnheld
+step-full c g a n s h = rw (find-not-here 0 c (keyOf g) a n, s, le-ltb (length c) 32 h)
+
+-- a continuation, or no list
+pub step-unknown-more : (c : Content) (g : FieldOf) → ascends 0 c ≡ true → (Here c (keyOf g) → ⊥) → actOf g ≡ continuation (brings g) → step linkage c (said g) ≡ (c, UnknownKey)
+unfolding step said effect store onUnheld
+step-unknown-more c g a n s = rw (find-not-here 0 c (keyOf g) a n, s)
+
+pub step-unknown-none : (c : Content) (g : FieldOf) → ascends 0 c ≡ true → (Here c (keyOf g) → ⊥) → actOf g ≡ noList → step linkage c (said g) ≡ (c, UnknownKey)
+unfolding step said effect store onUnheld
+step-unknown-none c g a n s = rw (find-not-here 0 c (keyOf g) a n, s)
+
+-- the table with the new key
+opened-store : (c : Content) (e : Held) (j : ℕ) → e .shown ≡ none → j ≤ length c → length c < 32
+    → storeTable (take j c ++ e ∷ drop j c) ≡ openedTable (storeTable c) j (e .key) (e .state) (storeMaybe (e .draft))
+unfolding storeTable openedTable keyIn onIn shownIn draftIn storeMaybe
+opened-store c e j z m h =
+    let n : length (take j c ++ e ∷ drop j c) ≡ length c + 1 =
+          length-append (take j c) (e ∷ drop j c) ∙ ap₂ _+_ (length-take-le j c m) (ap suc (length-drop j c)) ∙ omega arith in
+    let ks = column-opened keyIn 0 c j e m h in
+    let os = column-opened onIn false c j e m h in
+    let ss = column-opened shownIn emptyList c j e m h ∙ ap (λ (o : Option IdSet). opened j (storeMaybe o) (padded 32 emptyList (map shownIn c))) z in
+    let ds = column-opened draftIn emptyList c j e m h in
+    rw (lt-ltb j 32 (omega arith), lt-ltb (length c) 32 h)
+    (λ i. record { count = n i; keys = ks i; on = os i; shown = ss i; draft = ds i })
+
+pub store-new : (c : Content) (k i : ℕ) (s : Bool) (l : IdSet) → (Here c k → ⊥) → i ≡ placeIn (map keyIn c) k → length c < 32
+    → storeTable (insert linkage (fresh linkage k s l) c) ≡ openedTable (storeTable c) i k s (storeList (opening linkage l))
+unfolding fresh storeMaybe
+store-new c k i s l n p h =
+    ap storeTable (insert-here c (fresh linkage k s l) n)
+    ∙ opened-store c (fresh linkage k s l) (placeIn (map keyIn c) k) refl (place-most c k) h
+    ∙ ap (λ (j : ℕ). openedTable (storeTable c) j k s (storeList (opening linkage l))) (sym p)
