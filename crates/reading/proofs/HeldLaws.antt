@@ -35,15 +35,15 @@ some-long k d m z = not-none (d .items) (set-facts k d m .first) z
 -- ---- what the field asks for
 
 module _ (body : List ℕ) (f : Field) where
-  act-none : hasListIn f ≡ false → actOf (meaning body f) ≡ noList
+  pub act-none : hasListIn f ≡ false → actOf (meaning body f) ≡ noList
   unfolding actOf
   act-none h = rw (sym (has-list-means body f) ∙ h)
 
-  act-more : hasListIn f ≡ true → continues f ≡ true → actOf (meaning body f) ≡ continuation (brings (meaning body f))
+  pub act-more : hasListIn f ≡ true → continues f ≡ true → actOf (meaning body f) ≡ continuation (brings (meaning body f))
   unfolding actOf
   act-more h c = rw (sym (has-list-means body f) ∙ h, sym (is-continuation-means body f) ∙ c)
 
-  act-start : hasListIn f ≡ true → continues f ≡ false → actOf (meaning body f) ≡ start (brings (meaning body f))
+  pub act-start : hasListIn f ≡ true → continues f ≡ false → actOf (meaning body f) ≡ start (brings (meaning body f))
   unfolding actOf
   act-start h c = rw (sym (has-list-means body f) ∙ h, sym (is-continuation-means body f) ∙ c)
 

@@ -1,17 +1,24 @@
 -- One field on the stored form: what it does to what is held of its key (document 01, Collecting).
-use Prim.Native.Nat.{ℕ}
+use Prim.Native.Nat.{ℕ, _+_}
 use mathlib.Core.Path.{_≡_}
-use mathlib.Core.Bool.{Bool, true}
-use mathlib.Core.List.{List}
+use mathlib.Core.Bool.{Bool, true, false, not, cond, _&&_}
+use mathlib.Core.List.{List, map}
+use lib.ListN.{length, set, replicate}
+use lib.Dec.{ltb}
+use Rattle.rules.specs.declared.Outcome.{Outcome}
+use Rattle.rules.specs.declared.Outcome.the-variants.{Done, NotABlock, CheckFails, WrongFig, WrongField, WrongValue, EmptyStart, NotHeld, ShortBuffer, WrongTable, NotASheet, NotShown}
 use Rattle.rules.specs.declared.Note.{Note}
+use Rattle.rules.specs.declared.Note.the-variants.{Opened, Full, UnknownKey}
 use Rattle.rules.specs.Family.{Entry, onHeld}
 use Rattle.rules.specs.Collecting.{linkage, Held, actOf, ifThere}
 use Rattle.field.specs.declared.Field.{Field}
 use Rattle.field.specs.declared.FieldStep.the-variants.{Found}
-use Rattle.field.specs.FieldStep.{fieldStepAt, meaning}
+use Rattle.field.specs.FieldStep.{fieldStepAt, meaning, hasListIn, continues}
 use Rattle.lists.specs.declared.IdList.{IdList}
-use Rattle.lists.specs.Stored.{storeMaybe}
+use Rattle.lists.specs.Stored.{padded, storeMaybe}
 use Rattle.reading.specs.declared.Stepped.{Stepped}
+use Rattle.reading.specs.declared.Noted.{Noted}
+use Rattle.reading.specs.declared.Notes.{Notes}
 
 -- an entry's set and list as they are stored, with the note
 unfoldable pub steppedAs : Held × Note → Stepped
@@ -22,3 +29,43 @@ unfoldable pub HeldStep : List ℕ → Field → IdList → IdList → Stepped �
 HeldStep body f shown draft r =
     (e : Held) (s : Bool) (place next : ℕ) → fieldStepAt body place ≡ Found f next → (f .qualifier ≡ 2 → ⊥) → ifThere (e .key) (e .draft) ≡ true
     → shown ≡ storeMaybe (e .shown) → draft ≡ storeMaybe (e .draft) → r ≡ steppedAs (onHeld linkage e s (actOf (meaning body f)))
+
+-- a field of a key that is not held opens a list: a start, and room for one key more
+unfoldable pub opensIn : Field → ℕ → Bool
+opensIn f count = hasListIn f && not (continues f) && ltb count 32
+
+-- the note of a field that changes nothing
+unfoldable pub unheldNote : Field → Note
+unheldNote f = cond (hasListIn f && not (continues f)) Full UnknownKey
+
+-- ---- the notes of a block
+
+-- no note; an unused place holds the first note of all
+unfoldable pub noNotes : Notes
+noNotes = record { notes = replicate 14 (record { note = Opened }); count = 0 }
+
+-- one note more at a place
+unfoldable pub notedAt : Notes → ℕ → Note → Notes
+notedAt ns at n = record { notes = set (ns .notes) at (record { note = n }); count = at + 1 }
+
+unfoldable pub notedAs : Note → Noted
+notedAs n = record { note = n }
+
+-- notes as they are stored
+unfoldable pub storeNotes : List Note → Notes
+storeNotes ns = record { notes = padded 14 (notedAs Opened) (map notedAs ns); count = length ns }
+
+-- a block is taken
+unfoldable pub isDone : Outcome → Bool
+isDone Done = true
+isDone NotABlock = false
+isDone CheckFails = false
+isDone WrongFig = false
+isDone WrongField = false
+isDone WrongValue = false
+isDone EmptyStart = false
+isDone NotHeld = false
+isDone ShortBuffer = false
+isDone WrongTable = false
+isDone NotASheet = false
+isDone NotShown = false

@@ -3,7 +3,17 @@
 // What a block does is readBlock of crate rules, on the table's stored form.
 
 ghost use mathlib.Core.Path.{_≡_};
-ghost use Rattle.reading.specs.Steps.{HeldStep};
+ghost use Prim.Native.Nat.{_<_};
+ghost use mathlib.Core.Bool.{_&&_};
+ghost use lib.ListN.{length, getD, set};
+ghost use lib.Dec.{ltb, eqb};
+ghost use Rattle.table.specs.Stored.{Stored};
+ghost use Rattle.lists.specs.Grown.{withField};
+ghost use Rattle.lists.specs.Stored.{emptyList};
+ghost use Rattle.reading.specs.Steps.{HeldStep, opensIn, unheldNote, noNotes, notedAt, isDone};
+ghost use Rattle.reading.specs.Runs.{Runs};
+
+use block::Spots;
 
 use field::Field;
 use lists::IdList;
@@ -42,4 +52,153 @@ fn on_held(shown: IdList, draft: IdList, body: &[u8], f: Field) -> Stepped
         return Stepped { shown, draft: opened, note: Note::Opened };
     }
     Stepped { shown: draft, draft: opened, note: Note::ShownAndOpened }
+}
+
+// Whether a key stands at its place.
+fn stands_at(keys: &[u32], count: usize, at: usize, key: u32) -> bool
+    ensures { λ r. ⌜ r ≡ (ltb at count && eqb (getD (now (keys .entry)) at 0) key) ⌝ }
+{
+    if count <= at {
+        return false;
+    }
+    if keys.len() <= at {
+        return 0 == key;
+    }
+    keys[at] == key
+}
+
+// Whether a field of a key that is not held opens a list: a start, and room for one key more.
+fn opens(f: Field, count: usize) -> bool
+    ensures { λ r. ⌜ r ≡ opensIn f count ⌝ }
+{
+    if !f.has_list() {
+        return false;
+    }
+    if f.is_continuation() {
+        return false;
+    }
+    count < 32
+}
+
+// The note of a field that changes nothing: a start that finds no room, or an unknown key.
+fn unheld_note(f: Field) -> Note
+    ensures { λ r. ⌜ r ≡ unheldNote f ⌝ }
+{
+    if !f.has_list() {
+        return Note::UnknownKey;
+    }
+    if f.is_continuation() {
+        return Note::UnknownKey;
+    }
+    Note::Full
+}
+
+// One note of a block.
+pub struct Noted {
+    pub note: Note,
+}
+
+// The notes of a taken block, one a field: the first `count` places.
+pub struct Notes {
+    pub notes: [Noted; 14],
+    pub count: usize,
+}
+
+impl Notes {
+    // No note.
+    pub fn none() -> Self
+        ensures { λ r. ⌜ r ≡ noNotes ⌝ }
+    {
+        Notes { notes: [Noted { note: Note::Opened }; 14], count: 0 }
+    }
+
+    // With a note more at a place.
+    fn noted(self, at: usize, note: Note) -> Self
+        requires { ⌜ at < 14 ⌝ }
+        ensures { λ r. ⌜ r ≡ notedAt self at note ⌝ }
+    {
+        let mut next = self;
+        next.notes[at] = Noted { note };
+        next.count = at + 1;
+        next
+    }
+}
+
+// Whether a block was taken.
+fn is_done(outcome: Outcome) -> bool
+    ensures { λ r. ⌜ r ≡ isDone outcome ⌝ }
+{
+    match outcome {
+        Outcome::Done => true,
+        _ => false,
+    }
+}
+
+// What reading blocks one after the other comes to: the last one's outcome and notes, and the table.
+struct Run {
+    outcome: Outcome,
+    notes: Notes,
+    table: Table,
+}
+
+// Reads the whole blocks of some bytes in order, field by field. The table stays in this function: it
+// is not copied for a block. A turn takes one field of the present block, or judges the next block.
+fn run_blocks(table: Table, bytes: &[u8]) -> Run
+    requires { ⌜ Stored table ⌝ }
+    ensures { λ r. ⌜ Runs table (now (bytes .entry)) r ⌝ }
+{
+    let mut t = table;
+    let mut notes = Notes::none();
+    let mut outcome = Outcome::Done;
+    let mut spots = block::no_spots();
+    let mut from = 0;
+    let mut at = 0;
+    let mut i = 0;
+    loop {
+        if i < spots.count {
+            let spot = spots.spots[i];
+            let f = spot.field;
+            let start = from + spot.start;
+            let end = from + spot.end;
+            let key = f.key();
+            let count = t.count;
+            let p = table::place_of(&t.keys, count, key);
+            if stands_at(&t.keys, count, p, key) {
+                let shown = t.shown[p];
+                let draft = t.draft[p];
+                let held = on_held(shown, draft, &bytes[start..end], f);
+                let new_shown = held.shown;
+                let new_draft = held.draft;
+                t.shown[p] = new_shown;
+                t.draft[p] = new_draft;
+                t.on[p] = f.la == 1;
+                let note = held.note;
+                notes = notes.noted(i, note);
+                i += 1;
+            } else if opens(f, count) {
+                let first = IdList::empty().with_field(&bytes[start..end], f);
+                let list = first.list;
+                t = t.opened_at(p, key, f.la == 1, list);
+                notes = notes.noted(i, Note::Opened);
+                i += 1;
+            } else {
+                notes = notes.noted(i, unheld_note(f));
+                i += 1;
+            }
+        } else {
+            if bytes.len() - at < 32 {
+                return Run { outcome, notes, table: t };
+            }
+            from = at;
+            at += 32;
+            let judged = block::judge(&bytes[from..at]);
+            outcome = judged.outcome;
+            spots = judged.spots;
+            notes = Notes::none();
+            i = 0;
+            if !is_done(outcome) {
+                t.draft = [IdList::empty(); 32];
+            }
+        }
+    }
 }

@@ -1,0 +1,36 @@
+-- The answer to a block by its tests, in their order: what is no block, a check that fails, and the FIGs.
+use Prim.Native.Nat.{ℕ}
+use mathlib.Core.Path.{_≡_, sym, ap, _∙_}
+use mathlib.Core.Bool.{Bool, true, false, _&&_}
+use mathlib.Core.List.{List}
+use lib.ListN.{length}
+use lib.Dec.{eqb}
+use borrow.Author.Tests.{eq-eqb, ne-eqb}
+use Rattle.rules.specs.declared.Outcome.the-variants.{NotABlock, CheckFails}
+use Rattle.rules.specs.Block.{checkHolds}
+use Rattle.rules.specs.Outcomes.{verdict}
+use Rattle.block.specs.declared.Judged.{Judged}
+use Rattle.block.specs.Judged.{noSpots, Judges, isTaken, isRefused, isNoBlock}
+use Rattle.block.specs.Faults.{Answers, done, not, JudgesFigs}
+use Rattle.block.proofs.Placing.{no-count}
+
+module _ (fib : List ℕ) (r : Judged) where
+  pub judges-no-block : (length fib ≡ 32 → ⊥) → r ≡ record { outcome = NotABlock; spots = noSpots } → Judges fib r
+  unfolding verdict
+  judges-no-block l e =
+      isNoBlock (rw (ne-eqb (length fib) 32 l)) (ap (λ (x : Judged). x .outcome) e) (ap (λ (x : Judged). x .spots .count) e ∙ no-count)
+
+  module _ (l : length fib ≡ 32) (b : Bool) (t : b ≡ (eqb (length fib) 32 && checkHolds fib)) where
+    check-is : checkHolds fib ≡ b
+    check-is = sym (t ∙ ap (λ (x : Bool). x && checkHolds fib) (eq-eqb (length fib) 32 l))
+
+    pub judges-check : b ≡ false → r ≡ record { outcome = CheckFails; spots = noSpots } → Judges fib r
+    unfolding verdict
+    judges-check f e =
+        isRefused CheckFails (rw (eq-eqb (length fib) 32 l, check-is ∙ f)) (ap (λ (x : Judged). x .outcome) e)
+        (ap (λ (x : Judged). x .spots .count) e ∙ no-count)
+
+    pub judges-figs : b ≡ true → JudgesFigs fib r → Judges fib r
+    unfolding verdict JudgesFigs
+    judges-figs h (done fs v o p) = isTaken fs (rw (eq-eqb (length fib) 32 l, check-is ∙ h) v) o p
+    judges-figs h (not x v o n) = isRefused x (rw (eq-eqb (length fib) 32 l, check-is ∙ h) v) o n

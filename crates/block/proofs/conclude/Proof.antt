@@ -1,0 +1,34 @@
+-- `block::conclude` meets its contract: each fault that is tested has its answer.
+-- Assumes nothing.
+use mathlib.Core.Path.{refl}
+use borrow.Author.Needs.{needs}
+use Rattle.block.proofs.Placing.{concludes-field, concludes-value, concludes-start, concludes-done}
+use Rattle.block.proofs.conclude.Statement.{statement}
+use Rattle.block.proofs.conclude.Tie as tie
+
+refuse-requires : tie.Need-refuse-requires
+refuse-requires c κs = search needs
+
+returns : tie.Need-returns
+returns c = concludes-field _ _ (c .before .if1 .taken) (c .refuse .ensures)
+
+refuse-requires-2 : tie.Need-refuse-requires-2
+refuse-requires-2 c κs = search needs
+
+returns-2 : tie.Need-returns-2
+returns-2 c = concludes-value _ _ (c .before .if2 .taken) (c .refuse2 .ensures)
+
+refuse-requires-3 : tie.Need-refuse-requires-3
+refuse-requires-3 c κs = search needs
+
+returns-3 : tie.Need-returns-3
+returns-3 c = concludes-start _ _ (c .before .if3 .taken) (c .refuse3 .ensures)
+
+returns-4 : tie.Need-returns-4
+returns-4 c =
+    let b = c .before in
+    concludes-done _ _ (b .before .before .if1 .left) (b .before .if2 .left) (b .if3 .left) refl
+
+pub conclude-spec : {M : Type 1} → statement M
+conclude-spec =
+    tie.close (tie.spec refuse-requires returns refuse-requires-2 returns-2 refuse-requires-3 returns-3 returns-4)

@@ -1,0 +1,125 @@
+-- `block::push_fields` meets its contract. The loop's invariant: the verdict from before the body is that from here, whatever
+-- comes after the body. The measure is what is left of the body.
+-- Assumes nothing.
+use Prim.Native.Nat.{ℕ, _-_, min}
+use native.Mathlib.Omega.{arith}
+use mathlib.Core.Path.{_≡_, sym, ap, _∙_, subst}
+use lib.ListN.{length}
+use borrow.Author.Needs.{needs}
+use Rattle.field.specs.declared.FieldStep.the-variants.{Found}
+use Rattle.field.specs.FieldStep.{fieldStepAt}
+use Rattle.block.proofs.Placing.{length-of-map, withSpot}
+use Rattle.block.proofs.Loops.{body, FieldsSoFar, fields-first, fields-next, fields-end, fields-wrong, field-room, field-goes-on}
+use Rattle.block.proofs.push_fields.Statement.{statement}
+use Rattle.block.proofs.push_fields.Tie as tie
+
+abbrev Inv-loop : tie.InvT-loop
+Inv-loop fib start end body fault₀ spots₀ at₀ fault spots at = FieldsSoFar fib start end fault₀ spots₀ fault spots at
+
+abbrev μ-loop : tie.MeasureT-loop
+μ-loop fib start end body fault₀ spots₀ at₀ fault spots at = end - start - at
+
+sub-body : tie.Need-sub-body Inv-loop μ-loop
+sub-body c = search needs
+
+part-body-start : tie.Need-part-body-start Inv-loop μ-loop
+part-body-start c = search needs
+
+part-body-end : tie.Need-part-body-end Inv-loop μ-loop
+part-body-end c = search needs
+
+loop-holds : tie.Need-loop-holds Inv-loop μ-loop
+loop-holds c =
+    let b = c .before .before .before in
+    let long : length (b .args .before .spots .spots) ≡ 14 = search (length-of-map, needs) in
+    fields-first (b .args .fib .now) (b .args .start) (b .args .end) (b .args .before) (b .pre) long
+
+field-at-requires : tie.Need-field-at-requires Inv-loop μ-loop
+field-at-requires c κs = search needs
+
+enum-told : tie.Need-enum-told Inv-loop μ-loop
+enum-told c = search needs
+
+returns : tie.Need-returns Inv-loop μ-loop
+returns c =
+    let l = c .before .before .before in
+    let b = l .before .before .before .before in
+    fields-end _ _ _ _ _ _ _ _ (b .pre .block) (b .pre .within) (l .loop .inv)
+    (sym (c .before .before .field-at .ensures) ∙ c .enum-told .given .1)
+
+enum-told-2 : tie.Need-enum-told-2 Inv-loop μ-loop
+enum-told-2 c = search needs
+
+returns-2 : tie.Need-returns-2 Inv-loop μ-loop
+returns-2 c =
+    let l = c .before .before .before in
+    let b = l .before .before .before .before in
+    fields-wrong _ _ _ _ _ _ _ _ (b .pre .block) (b .pre .within) (l .loop .inv)
+    (sym (c .before .before .field-at .ensures) ∙ c .enum-told2 .given .1)
+
+enum-known-step : tie.Need-enum-known-step Inv-loop μ-loop
+enum-known-step c = search needs
+
+fault-in-requires : tie.Need-fault-in-requires Inv-loop μ-loop
+fault-in-requires c κs = search needs
+
+smaller-requires : tie.Need-smaller-requires Inv-loop μ-loop
+smaller-requires c κs = search needs
+
+mul-t20 : tie.Need-mul-t20 Inv-loop μ-loop
+mul-t20 c = search needs
+
+element-set-from-spots : tie.Need-element-set-from-spots Inv-loop μ-loop
+element-set-from-spots c =
+    let s = c .before .before .before in
+    let l = s .before .before .before in
+    let b = l .before .before .before .before in
+    field-room _ _ _ _ _ _ _ _ (b .pre .block) (b .pre .within) (l .loop .inv) _ _ (sym (s .before .before .field-at .ensures) ∙ s .step .given .1)
+
+add-spots : tie.Need-add-spots Inv-loop μ-loop
+add-spots c = search needs
+
+loop-less : tie.Need-loop-less Inv-loop μ-loop
+loop-less c =
+    let s = c .before .before .before in
+    let l = s .before .before .before in
+    let b = l .before .before .before .before in
+    field-goes-on _ _ _ _ _ _ _ _ (b .pre .block) (b .pre .within) (l .loop .inv) _ _ (sym (s .before .before .field-at .ensures) ∙ s .step .given .1)
+
+loop-again : tie.Need-loop-again Inv-loop μ-loop
+loop-again c =
+    let s = c .before .before .before in
+    let l = s .before .before .before in
+    let b = l .before .before .before .before in
+    let x = b .args in
+    let fault = c .smaller .ensures ∙ ap (min (l .loop .fault)) (c .before .fault-in .ensures) in
+    subst
+    (λ (k : ℕ). FieldsSoFar (x .fib .now) (x .start) (x .end) (x .before .fault) (x .before .spots) k
+    (withSpot (l .loop .spots) (record { field = s .step .given .0 .0; start = x .start; end = x .end })) (s .step .given .0 .1 .0))
+    (sym fault)
+    (fields-next _ _ _ _ _ _ _ _ (b .pre .block) (b .pre .within) (l .loop .inv) _ _
+    (sym (s .before .before .field-at .ensures) ∙ s .step .given .1))
+
+pub push-fields-spec : {M : Type 1} → statement M
+push-fields-spec =
+    tie.close
+    (tie.spec
+    Inv-loop
+    μ-loop
+    sub-body
+    part-body-start
+    part-body-end
+    loop-holds
+    field-at-requires
+    enum-told
+    returns
+    enum-told-2
+    returns-2
+    enum-known-step
+    fault-in-requires
+    smaller-requires
+    mul-t20
+    element-set-from-spots
+    add-spots
+    loop-less
+    loop-again)

@@ -1,0 +1,3 @@
+-- What the answers of this crate mean by the rules.
+pub mod Judged
+pub mod Faults

@@ -1,0 +1,168 @@
+// What is in a block (document 01, Numbered outcomes): a block is taken, with its fields in order, or refused for 1 to 6 in
+// that order, each over the whole block before the next. One pass over the block finds both: the order of 4, 5 and 6 is
+// kept by a fault that only falls, from 7, no fault, to the smallest that any field has.
+ghost use mathlib.Core.Path.{_≡_};
+ghost use Prim.Native.Nat.{_+_, _*_, _≤_, _<_, min};
+ghost use lib.ListN.{length};
+ghost use Rattle.block.specs.Judged.{noSpots, Judges};
+ghost use Rattle.block.specs.Faults.{faultIn, JudgesFigs, Concludes, CanPush, Pushes};
+
+use field::{Field, FieldStep};
+use figs::{Cursor, FigStep};
+use rules::Outcome;
+
+// A field of a taken block, and the FIG body that it stands in: fib[start..end].
+pub struct Spot {
+    pub field: Field,
+    pub start: usize,
+    pub end: usize,
+}
+
+// The fields of a block, in order: the first count places. A block has 14 at most.
+pub struct Spots {
+    pub spots: [Spot; 14],
+    pub count: usize,
+}
+
+// What a block is judged to be. A refused block has no fields.
+pub struct Judged {
+    pub outcome: Outcome,
+    pub spots: Spots,
+}
+
+// What has been found in the FIGs so far: the smallest fault of a field (4 it does not fit, 5 a wrong value, 6 an empty
+// start, 7 none), and the fields.
+pub struct Pushed {
+    pub fault: u8,
+    pub spots: Spots,
+}
+
+// No fields.
+pub fn no_spots() -> Spots
+    ensures { λ r. ⌜ r ≡ noSpots ⌝ }
+{
+    let field = Field {
+        cn: 0,
+        oe: 0,
+        pd: 0,
+        flag: 0,
+        la: 0,
+        hard: 0,
+        ils: 0,
+        lsn: 0,
+        rfu: 0,
+        qualifier: 0,
+        shorthand: 0,
+        count: 0,
+        from: 0,
+    };
+    Spots {
+        spots: [Spot { field, start: 0, end: 0 }; 14],
+        count: 0,
+    }
+}
+
+// A block refused, with no fields.
+fn refuse(outcome: Outcome) -> Judged
+    ensures { λ r. ⌜ r ≡ record { outcome = outcome; spots = noSpots } ⌝ }
+{
+    Judged { outcome, spots: no_spots() }
+}
+
+// The fault of a field: 5 a wrong value, 6 an empty start, 7 none.
+fn fault_in(f: Field) -> u8
+    ensures { λ r. ⌜ r ≡ faultIn f ⌝ }
+{
+    if f.wrong_value() {
+        return 5;
+    }
+    if f.empty_start() {
+        return 6;
+    }
+    7
+}
+
+// The smaller of two faults.
+fn smaller(a: u8, b: u8) -> u8
+    ensures { λ r. ⌜ r ≡ min a b ⌝ }
+{
+    if a < b { a } else { b }
+}
+
+// With the fields of a FIG's body fib[start..end] besides.
+fn push_fields(fib: &[u8], start: usize, end: usize, before: Pushed) -> Pushed
+    requires { ⌜ CanPush (now fib) start end before ⌝ }
+    ensures { λ r. ⌜ Pushes (now (fib .entry)) start end before r ⌝ }
+{
+    let body = &fib[start..end];
+    let mut fault = before.fault;
+    let mut spots = before.spots;
+    let mut at = 1;
+    loop {
+        let step = field::field_at(body, at);
+        match step {
+            FieldStep::End => return Pushed { fault, spots },
+            FieldStep::Wrong => return Pushed { fault: 4, spots },
+            FieldStep::Found(f, next) => {
+                fault = smaller(fault, fault_in(f));
+                let n = spots.count;
+                spots.spots[n] = Spot { field: f, start, end };
+                spots.count = n + 1;
+                at = next;
+            }
+        }
+    }
+}
+
+// The outcome of a block whose FIGs are all right, by the smallest fault of its fields.
+fn conclude(found: Pushed) -> Judged
+    ensures { λ r. ⌜ Concludes found r ⌝ }
+{
+    let fault = found.fault;
+    if fault == 4 {
+        return refuse(Outcome::WrongField);
+    }
+    if fault == 5 {
+        return refuse(Outcome::WrongValue);
+    }
+    if fault == 6 {
+        return refuse(Outcome::EmptyStart);
+    }
+    let spots = found.spots;
+    Judged { outcome: Outcome::Done, spots }
+}
+
+// What the FIGs of a block and the fields in them come to: 3, then 4, 5 and 6.
+fn judge_figs(fib: &[u8]) -> Judged
+    requires { ⌜ length (now fib) ≡ 32 ⌝ }
+    ensures { λ r. ⌜ JudgesFigs (now (fib .entry)) r ⌝ }
+{
+    let mut cursor = Cursor::first();
+    let mut found = Pushed { fault: 7, spots: no_spots() };
+    loop {
+        let step = cursor.step(fib);
+        match step {
+            FigStep::End => return conclude(found),
+            FigStep::Wrong => return refuse(Outcome::WrongFig),
+            FigStep::Fig { kind, start, end, next } => {
+                if field::is_linking(kind, &fib[start..end]) {
+                    found = push_fields(fib, start, end, found);
+                }
+                cursor = next;
+            }
+        }
+    }
+}
+
+// What is in a block: taken, with its fields, or refused (1 to 6 in that order, each over the whole block before the next).
+pub fn judge(fib: &[u8]) -> Judged
+    ensures { λ r. ⌜ Judges (now (fib .entry)) r ⌝ }
+{
+    if fib.len() != 32 {
+        return refuse(Outcome::NotABlock);
+    }
+    if !crc::check_holds(fib) {
+        return refuse(Outcome::CheckFails);
+    }
+    judge_figs(fib)
+}

@@ -1,0 +1,229 @@
+-- The loop that reads blocks: what it keeps (`Going`), and one turn of it. In order: notes as they are stored; a field more;
+-- a block more, taken or refused; the end.
+use Prim.Native.Nat.{ℕ, zero, suc, _+_, _-_, _*_, _/_, _<_, _≤_, suc-le-suc}
+use native.Mathlib.Nat.{le-of-suc-le-suc, not-suc-le-zero}
+use native.Mathlib.Numerals.{add-one}
+use native.Mathlib.Omega.{arith}
+use mathlib.Core.Path.{_≡_, refl, sym, ap, ap₂, _∙_, subst}
+use mathlib.Core.Bool.{Bool, true, false, cond}
+use mathlib.Core.List.{List, [], _∷_, _++_, map, append-assoc, append-nil, map-append}
+use mathlib.Core.Option.{Option, none, some}
+use lib.ListN.{length, getD, set, take, drop, replicate, length-append, length-map, length-take, length-drop}
+use lib.Seq.{drop-cons, drop-drop, set-at, append-snoc, drop-length, getD-take, getD-drop}
+use lib.Dec.{ltb}
+use lib.ListN.{List·getD-eq-default}
+use borrow.Author.Tests.{ltb-true, ltb-false}
+use Rattle.lists.proofs.Pairs.{decide}
+use Rattle.rules.specs.declared.Outcome.{Outcome}
+use Rattle.rules.specs.declared.Outcome.the-variants.{Done}
+use Rattle.rules.specs.declared.Note.{Note}
+use Rattle.rules.specs.declared.Note.the-variants.{Opened}
+use Rattle.rules.specs.Field.{Field as FieldOf}
+use Rattle.rules.specs.Family.{step, steps, dropOpen, closed}
+use Rattle.rules.specs.Collecting.{linkage, Held, Content, said, meets}
+use Rattle.rules.specs.Outcomes.{Verdict, taken, refused, verdict, Answer, answerTo, readBlock}
+use Rattle.rules.proofs.Basics.{Every}
+use Rattle.rules.proofs.Taken.{GoodField, taken-good}
+use Rattle.rules.proofs.LinkageLaws.{Meets, table-meets, meets-steps, meets-drop-open, answer-taken, answer-refused, bytes-list}
+use Rattle.lists.specs.Stored.{padded, emptyList, storeMaybe}
+use Rattle.table.specs.declared.Table.{Table}
+use Rattle.table.specs.Stored.{storeTable, draftIn, keyIn, onIn, shownIn}
+use Rattle.block.specs.declared.Spots.{Spots}
+use Rattle.block.specs.Judged.{Placed, noSpots, noField, SpotIs, noSpot}
+use Rattle.reading.specs.declared.Notes.{Notes}
+use Rattle.reading.specs.declared.Noted.{Noted}
+use Rattle.reading.specs.declared.Run.{Run}
+use Rattle.reading.specs.Steps.{storeNotes, notedAs, notedAt, noNotes}
+use Rattle.reading.specs.Runs.{begun, runBlocks, runAs, Runs}
+
+-- ---- notes as they are stored
+
+pub no-notes : noNotes ≡ storeNotes []
+unfolding noNotes storeNotes padded notedAs
+no-notes = refl
+
+pub note-more : (ns : List Note) (n : Note) → length ns < 14 → notedAt (storeNotes ns) (length ns) n ≡ storeNotes (ns ++ n ∷ [])
+unfolding notedAt storeNotes padded notedAs
+note-more ns n h =
+    let e : 14 - length (map notedAs ns) ≡ suc (14 - (length ns + 1)) = ap (λ (k : ℕ). 14 - k) (length-map ns notedAs) ∙ omega arith in
+    let k : 14 - length (map notedAs (ns ++ n ∷ [])) ≡ 14 - (length ns + 1) = ap (λ (j : ℕ). 14 - j) (length-map (ns ++ n ∷ []) notedAs ∙ length-append ns (n ∷ [])) in
+    let x : List Noted = replicate (14 - (length ns + 1)) (notedAs Opened) in
+    let all : set (map notedAs ns ++ replicate (14 - length (map notedAs ns)) (notedAs Opened)) (length ns) (notedAs n)
+          ≡ map notedAs (ns ++ n ∷ []) ++ replicate (14 - length (map notedAs (ns ++ n ∷ []))) (notedAs Opened) =
+          ap (λ (m : ℕ). set (map notedAs ns ++ replicate m (notedAs Opened)) (length ns) (notedAs n)) e
+          ∙ set-at (map notedAs ns) (notedAs Opened) x (notedAs n) (length ns) (length-map ns notedAs)
+          ∙ sym (append-snoc (map notedAs ns) (notedAs n) x)
+          ∙ ap₂ (λ (a : List Noted) (m : ℕ). a ++ replicate m (notedAs Opened)) (sym (map-append notedAs ns (n ∷ []))) (sym k) in
+    λ i. record { notes = all i; count = sym (length-append ns (n ∷ [])) i }
+
+-- ---- what the loop keeps
+
+-- the answer to the present block, with these notes so far and these fields still to come
+unfoldable pub resumed : Outcome → List Note → Content → List FieldOf → Answer
+resumed o ns c gs = record { outcome = o; notes = ns ++ steps linkage c (map said gs) .1; left = steps linkage c (map said gs) .0 }
+
+-- the table stores a content that meets the rules; the spots place the fields of the present block; the notes are those of
+-- the fields passed; what is left to do makes the whole
+pub record Going (bytes : List ℕ) (t₀ t : Table) (notes : Notes) (outcome : Outcome) (spots : Spots) (from at i : ℕ) : Type 0 where
+  pub first : Content
+  pub first-meets : meets first ≡ true
+  pub first-stored : t₀ ≡ storeTable first
+  pub now' : Content
+  pub now-meets : meets now' ≡ true
+  pub stored : t ≡ storeTable now'
+  pub fields : List FieldOf
+  pub placed : Placed (take 32 (drop from bytes)) spots fields
+  pub good : Every GoodField fields
+  pub inside : 0 < length fields → from + 32 ≤ length bytes
+  pub noted : List Note
+  pub notes-are : notes ≡ storeNotes noted
+  pub as-many : length noted ≡ i
+  pub within : i ≤ length fields
+  pub at-most : at ≤ length bytes
+  pub answer : runBlocks (length bytes / 32) (begun first) bytes ≡ runBlocks ((length bytes - at) / 32) (resumed outcome noted now' (drop i fields)) (drop at bytes)
+
+placed-none : (fib : List ℕ) (spots : Spots) → spots .count ≡ 0 → Placed fib spots []
+placed-none fib spots z = record { count = z; few = omega arith; each = λ i h. absurd (not-suc-le-zero h) }
+
+resumed-none : (o : Outcome) (ns : List Note) (c : Content) → resumed o ns c [] ≡ record { outcome = o; notes = ns; left = c }
+unfolding resumed steps
+resumed-none o ns c = ap (λ (m : List Note). record { outcome = o; notes = m; left = c }) (append-nil ns)
+
+pub going-first : (bytes : List ℕ) (t : Table) (notes : Notes) (spots : Spots) (c : Content) → meets c ≡ true → t ≡ storeTable c → notes ≡ noNotes → spots ≡ noSpots
+    → Going bytes t t notes Done spots 0 0 0
+unfolding noSpots begun
+going-first bytes t notes spots c m e n s =
+    record {
+      first = c; first-meets = m; first-stored = e; now' = c; now-meets = m; stored = e; fields = [];
+      placed = placed-none _ spots (ap (λ (x : Spots). x .count) s); good = tt;
+      inside = λ h. absurd (not-suc-le-zero h); noted = []; notes-are = n ∙ no-notes; as-many = refl; within = omega arith; at-most = omega arith;
+      answer = ap₂ (λ (n : ℕ) (a : Answer). runBlocks n a bytes) (ap (λ (n : ℕ). n / 32) whole) (sym (resumed-none Done [] c)) }
+  where
+    whole : length bytes ≡ length bytes - 0
+    whole = omega arith
+
+-- ---- a field more
+
+every-get : {A : Type 0} (P : A → Type 0) (d : A) (xs : List A) (i : ℕ) → Every P xs → i < length xs → P (getD xs i d)
+every-get P d [] i e h = absurd (not-suc-le-zero h)
+every-get P d (x ∷ xs) zero e h = e .0
+every-get P d (x ∷ xs) (suc i) e h = every-get P d xs i (e .1) (le-of-suc-le-suc h)
+
+resumed-step : (o : Outcome) (ns : List Note) (c c' : Content) (n : Note) (g : FieldOf) (gs : List FieldOf) → step linkage c (said g) ≡ (c', n)
+    → resumed o ns c (g ∷ gs) ≡ resumed o (ns ++ n ∷ []) c' gs
+unfolding resumed steps
+resumed-step o ns c c' n g gs e =
+    ap (λ (r : Content × Note). record { outcome = o; notes = ns ++ r .1 ∷ steps linkage (r .0) (map said gs) .1; left = steps linkage (r .0) (map said gs) .0 }) e
+    ∙ ap (λ (m : List Note). record { outcome = o; notes = m; left = steps linkage c' (map said gs) .0 }) (sym (append-snoc ns n (steps linkage c' (map said gs) .1)))
+
+step-meets : (c c' : Content) (n : Note) (g : FieldOf) → GoodField g → meets c ≡ true → step linkage c (said g) ≡ (c', n) → meets c' ≡ true
+unfolding steps
+step-meets c c' n g good m e =
+    table-meets c' .1 (subst Meets (ap (λ (r : Content × Note). r .0) e) (meets-steps c (g ∷ []) (good, tt) (table-meets c .0 m)))
+
+-- bytes of a part
+pub part-bytes : (n at : ℕ) (bytes : List ℕ) → ((j : ℕ) → getD bytes j 0 < 256) → (j : ℕ) → getD (take n (drop at bytes)) j 0 < 256
+part-bytes n at bytes b j =
+    decide (ltb j n)
+    (λ h. rw (getD-take n (drop at bytes) j 0 (ltb-true j n h), getD-drop at bytes j 0) (b (at + j)))
+    (λ h. rw (List·getD-eq-default (take n (drop at bytes)) 0 {n = j} (rw (length-take n (drop at bytes)) (omega (arith, ltb-false j n h)))) (omega arith))
+
+module _ (bytes : List ℕ) (t₀ t : Table) (notes : Notes) (o : Outcome) (spots : Spots) (from at i : ℕ) (G : Going bytes t₀ t notes o spots from at i) where
+  -- the present field
+  pub field-now : FieldOf
+  field-now = getD (G .fields) i noField
+
+  pub more-fields : i < spots .count → i < length (G .fields)
+  more-fields h = subst (λ (n : ℕ). i < n) (G .placed .count) h
+
+  pub spot-now : i < spots .count → SpotIs (take 32 (drop from bytes)) (getD (spots .spots) i noSpot) field-now
+  unfolding field-now
+  spot-now h = G .placed .each i (more-fields h)
+
+  pub good-now : i < spots .count → GoodField field-now
+  unfolding field-now
+  good-now h = every-get GoodField noField (G .fields) i (G .good) (more-fields h)
+
+  pub few-fields : i < spots .count → i < 14
+  few-fields h = omega (arith, G .placed .few, more-fields h)
+
+  pub going-next : i < spots .count → (t' : Table) (notes' : Notes) (n : Note) (c' : Content) → step linkage (G .now') (said field-now) ≡ (c', n)
+      → t' ≡ storeTable c' → notes' ≡ notedAt notes i n → Going bytes t₀ t' notes' o spots from at (i + 1)
+  unfolding field-now
+  going-next h t' notes' n c' e s q =
+      record {
+        first = G .first; first-meets = G .first-meets; first-stored = G .first-stored;
+        now' = c'; now-meets = step-meets (G .now') c' n (getD (G .fields) i noField) (good-now h) (G .now-meets) e; stored = s;
+        fields = G .fields; placed = G .placed; good = G .good; inside = G .inside;
+        noted = G .noted ++ n ∷ [];
+        notes-are = q ∙ ap₂ (λ (m : Notes) (j : ℕ). notedAt m j n) (G .notes-are) (sym (G .as-many)) ∙ note-more (G .noted) n (rw (G .as-many) (few-fields h));
+        as-many = length-append (G .noted) (n ∷ []) ∙ omega (arith, G .as-many);
+        within = omega (arith, more-fields h); at-most = G .at-most;
+        answer =
+          G .answer
+          ∙ ap (λ (a : Answer). runBlocks ((length bytes - at) / 32) a (drop at bytes))
+            (ap (resumed o (G .noted) (G .now')) (drop-cons (G .fields) i noField (more-fields h))
+            ∙ resumed-step o (G .noted) (G .now') c' n (getD (G .fields) i noField) (drop (suc i) (G .fields)) e
+            ∙ ap (λ (k : ℕ). resumed o (G .noted ++ n ∷ []) c' (drop k (G .fields))) (sym (add-one i))) }
+
+  -- ---- a block more
+
+  no-fields : spots .count ≤ i → drop i (G .fields) ≡ []
+  no-fields h =
+      let e : i ≡ length (G .fields) = omega (arith, G .placed .count, G .within) in
+      ap (λ (k : ℕ). drop k (G .fields)) e ∙ drop-length (G .fields)
+
+  answer-now : spots .count ≤ i
+      → runBlocks (length bytes / 32) (begun (G .first)) bytes ≡ runBlocks ((length bytes - at) / 32) (record { outcome = o; notes = G .noted; left = G .now' }) (drop at bytes)
+  answer-now h =
+      G .answer ∙ ap (λ (a : Answer). runBlocks ((length bytes - at) / 32) a (drop at bytes)) (ap (resumed o (G .noted) (G .now')) (no-fields h) ∙ resumed-none o (G .noted) (G .now'))
+
+  answer-block : spots .count ≤ i → 32 ≤ length bytes - at
+      → runBlocks (length bytes / 32) (begun (G .first)) bytes ≡ runBlocks ((length bytes - (at + 32)) / 32) (readBlock (G .now') (take 32 (drop at bytes))) (drop (at + 32) bytes)
+  unfolding runBlocks
+  answer-block h l =
+      let e : (length bytes - at) / 32 ≡ suc ((length bytes - (at + 32)) / 32) = omega arith in
+      answer-now h
+      ∙ ap (λ (n : ℕ). runBlocks n (record { outcome = o; notes = G .noted; left = G .now' }) (drop at bytes)) e
+      ∙ ap (λ (r : List ℕ). runBlocks ((length bytes - (at + 32)) / 32) (readBlock (G .now') (take 32 (drop at bytes))) r) (drop-drop 32 at bytes)
+
+  pub going-taken : spots .count ≤ i → 32 ≤ length bytes - at → ((j : ℕ) → getD bytes j 0 < 256) → (fs : List FieldOf) (spots' : Spots) (notes' : Notes) (o' : Outcome)
+      → verdict (take 32 (drop at bytes)) ≡ taken fs → Placed (take 32 (drop at bytes)) spots' fs → notes' ≡ noNotes → o' ≡ Done
+      → Going bytes t₀ t notes' o' spots' at (at + 32) 0
+  unfolding resumed
+  going-taken h l b fs spots' notes' o' v p n d =
+      record {
+        first = G .first; first-meets = G .first-meets; first-stored = G .first-stored; now' = G .now'; now-meets = G .now-meets; stored = G .stored;
+        fields = fs; placed = p; good = taken-good (take 32 (drop at bytes)) fs (bytes-list (take 32 (drop at bytes)) (part-bytes 32 at bytes b)) v;
+        inside = λ _. omega arith; noted = []; notes-are = n ∙ no-notes; as-many = refl; within = omega arith; at-most = omega arith;
+        answer =
+          answer-block h l
+          ∙ ap (λ (a : Answer). runBlocks ((length bytes - (at + 32)) / 32) a (drop (at + 32) bytes))
+            (answer-taken (G .now') (take 32 (drop at bytes)) fs v
+            ∙ ap (λ (x : Outcome). record { outcome = x; notes = steps linkage (G .now') (map said fs) .1; left = steps linkage (G .now') (map said fs) .0 }) (sym d)) }
+
+  pub going-refused : spots .count ≤ i → 32 ≤ length bytes - at → (t' : Table) (spots' : Spots) (notes' : Notes) (o' p : Outcome)
+      → verdict (take 32 (drop at bytes)) ≡ refused p → o' ≡ p → spots' .count ≡ 0 → notes' ≡ noNotes → t' ≡ storeTable (dropOpen linkage (G .now'))
+      → Going bytes t₀ t' notes' o' spots' at (at + 32) 0
+  going-refused h l t' spots' notes' o' p v d z n s =
+      record {
+        first = G .first; first-meets = G .first-meets; first-stored = G .first-stored;
+        now' = dropOpen linkage (G .now'); now-meets = table-meets _ .1 (meets-drop-open (G .now') (table-meets _ .0 (G .now-meets))); stored = s;
+        fields = []; placed = placed-none _ spots' z; good = tt;
+        inside = λ q. absurd (not-suc-le-zero q); noted = []; notes-are = n ∙ no-notes; as-many = refl; within = omega arith; at-most = omega arith;
+        answer =
+          answer-block h l
+          ∙ ap (λ (a : Answer). runBlocks ((length bytes - (at + 32)) / 32) a (drop (at + 32) bytes))
+            (answer-refused (G .now') (take 32 (drop at bytes)) p v
+            ∙ ap (λ (x : Outcome). record { outcome = x; notes = []; left = dropOpen linkage (G .now') }) (sym d)
+            ∙ sym (resumed-none o' [] (dropOpen linkage (G .now')))) }
+
+  -- ---- the end
+
+  pub going-end : spots .count ≤ i → length bytes - at < 32 → Runs t₀ bytes (record { outcome = o; notes = notes; table = t })
+  unfolding Runs runAs runBlocks
+  going-end h l =
+      let e : (length bytes - at) / 32 ≡ 0 = omega arith in
+      let whole = answer-now h ∙ ap (λ (n : ℕ). runBlocks n (record { outcome = o; notes = G .noted; left = G .now' }) (drop at bytes)) e in
+      (G .first, G .first-meets, G .first-stored,
+      (λ j. record { outcome = o; notes = G .notes-are j; table = G .stored j }) ∙ ap runAs (sym whole))

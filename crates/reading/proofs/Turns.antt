@@ -1,0 +1,377 @@
+-- One turn of the loop that reads blocks, as the code takes it: the part of the recording that a field stands in; a field of a
+-- held key; of a new key; one that changes nothing; a refused block.
+use Prim.Native.Nat.{ℕ, zero, suc, _+_, _-_, _*_, _/_, _<_, _≤_, min}
+use native.Mathlib.Nat.{le-of-suc-le-suc, not-suc-le-zero}
+use native.Mathlib.Omega.{arith}
+use mathlib.Core.Path.{_≡_, refl, sym, ap, ap₂, _∙_, subst}
+use mathlib.Core.Bool.{Bool, true, false, not, cond, _&&_, true≢false, false≢true}
+use mathlib.Core.List.{List, [], _∷_, _++_, map}
+use mathlib.Core.Option.{Option, none, some}
+use lib.ListN.{length-take, length-drop, length, getD, set, take, drop, replicate, length-map, length-replicate, replicate-append-replicate}
+use lib.Dec.{ltb, eqb}
+use lib.Seq.{take-take, drop-drop}
+use borrow.Author.Tests.{ltb-true, ltb-false, eqb-true, eqb-false, lt-ltb, le-ltb, not-true}
+use Rattle.rules.specs.declared.Outcome.{Outcome}
+use Rattle.rules.specs.declared.Outcome.the-variants.{Done, NotABlock, CheckFails, WrongFig, WrongField, WrongValue, EmptyStart, NotHeld, ShortBuffer, WrongTable, NotASheet, NotShown}
+use Rattle.rules.specs.Outcomes.{verdict, noBlock}
+use Rattle.rules.proofs.LinkageLaws.{Refusal, full-refusal}
+use Rattle.block.proofs.Verdicts.{refused-not-done}
+use Rattle.rules.specs.declared.Note.{Note}
+use Rattle.rules.specs.declared.Note.the-variants.{Opened, Full, UnknownKey}
+use Rattle.rules.specs.Field.{Field as FieldOf, keyOf}
+use Rattle.rules.specs.Family.{Act, start, continuation, noList, step, onHeld, fresh, insert, opening, dropOpen, closed, entryWith}
+use Rattle.rules.specs.Collecting.{linkage, IdSet, Held, Content, said, actOf, brings, meets, ascends, ifThere}
+use Rattle.rules.proofs.FamilyLaws.{onHeld-key}
+use Rattle.field.specs.declared.Field.{Field}
+use Rattle.field.specs.FieldStep.{meaning, keyIn, hasListIn, continues, fieldStepAt}
+use Rattle.field.proofs.Laws.{InBody, fieldStepAt-range}
+use Rattle.lists.specs.declared.IdList.{IdList}
+use Rattle.lists.specs.declared.Grown.{Grown}
+use Rattle.lists.specs.Stored.{padded, storeList, emptyList, storeMaybe}
+use Rattle.lists.specs.Grown.{withField}
+use Rattle.lists.proofs.Pairs.{decide}
+use Rattle.lists.proofs.StoredLaws.{and-left, and-right}
+use Rattle.lists.proofs.GrownLaws.{with-none}
+use Rattle.table.specs.declared.Table.{Table}
+use Rattle.table.specs.Stored.{onIn, shownIn, draftIn, storeTable, openedTable, past}
+use Rattle.table.specs.Stored as S
+use Rattle.table.specs.Places.{placeIn}
+use Rattle.table.proofs.TableLaws.{meets-facts, entry-facts}
+use Rattle.table.proofs.Entries.{Here, noEntry}
+use Rattle.table.proofs.GivenLaws.{is-here, not-past, not-other, place-at, count-of}
+use Rattle.table.proofs.CopyOut.{column-at, entry-at}
+use Rattle.block.specs.declared.Spot.{Spot}
+use Rattle.block.specs.declared.Spots.{Spots}
+use Rattle.block.specs.declared.Judged.{Judged}
+use Rattle.block.specs.Judged.{SpotIs, bodyAt, noSpot, Placed, Judges, isTaken, isRefused, isNoBlock}
+use Rattle.reading.specs.declared.Stepped.{Stepped}
+use Rattle.reading.specs.declared.Notes.{Notes}
+use Rattle.reading.specs.Steps.{steppedAs, HeldStep, opensIn, unheldNote, notedAt, noNotes, isDone}
+use Rattle.reading.proofs.HeldLaws.{act-none, act-more, act-start}
+use Rattle.reading.proofs.StepLaws.{at', setAt, store-set, step-here, step-new, step-full, step-unknown-more, step-unknown-none, store-new, held-state}
+use Rattle.reading.proofs.RunLaws.{Going, field-now, spot-now, good-now, more-fields, few-fields, going-next, going-taken, going-refused, part-bytes}
+
+-- ---- a part of a part
+
+drop-take : {A : Type 0} (a n : ℕ) (xs : List A) → drop a (take n xs) ≡ take (n - a) (drop a xs)
+drop-take zero n xs =
+    let e : n - 0 ≡ n = omega arith in
+    ap (λ (k : ℕ). take k xs) (sym e)
+drop-take (suc a) zero xs = sym (none (suc a) xs)
+  where
+    none : {A : Type 0} (a : ℕ) (xs : List A) → take (0 - a) (drop a xs) ≡ []
+    none a xs =
+        let e : 0 - a ≡ 0 = omega arith in
+        ap (λ (k : ℕ). take k (drop a xs)) e
+drop-take (suc a) (suc n) [] = sym (no-more (suc n - suc a))
+  where
+    no-more : {A : Type 0} (k : ℕ) → _≡_ {A = List A} (take k []) []
+    no-more zero = refl
+    no-more (suc k) = refl
+drop-take (suc a) (suc n) (x ∷ xs) =
+    let e : suc n - suc a ≡ n - a = omega arith in
+    drop-take a n xs ∙ ap (λ (k : ℕ). take k (drop a xs)) (sym e)
+
+-- the body that the code hands on is the spot's
+pub body-of : (bytes : List ℕ) (from : ℕ) (s : Spot) → s .start ≤ s .end → s .end ≤ 30
+    → take (from + s .end - (from + s .start)) (drop (from + s .start) bytes) ≡ bodyAt (take 32 (drop from bytes)) s
+body-of bytes from s o e =
+    let m : from + s .end - (from + s .start) ≡ s .end - s .start = omega arith in
+    let x = drop (s .start) (drop from bytes) in
+    ap₂ (λ (k : ℕ) (l : List ℕ). take k l) m (sym (drop-drop (s .start) from bytes))
+    ∙ sym (ap (take (s .end - s .start)) (drop-take (s .start) 32 (drop from bytes)) ∙ take-take (s .end - s .start) (32 - s .start) x (omega arith))
+
+-- ---- a turn at a field
+
+module _ (bytes : List ℕ) (t₀ t : Table) (notes : Notes) (o : Outcome) (spots : Spots) (from at i : ℕ) (G : Going bytes t₀ t notes o spots from at i)
+    (h : i < spots .count) (body : List ℕ) (body-is : body ≡ bodyAt (take 32 (drop from bytes)) (getD (spots .spots) i noSpot))
+    (key : ℕ) (ke : key ≡ keyIn (getD (spots .spots) i noSpot .field)) (p : ℕ) (p-is : p ≡ placeIn (take (t .count) (t .keys)) key) where
+  abbrev f : Field
+  f = getD (spots .spots) i noSpot .field
+
+  g : FieldOf
+  g = field-now bytes t₀ t notes o spots from at i G
+
+  c : Content
+  c = G .now'
+
+  spot : SpotIs (take 32 (drop from bytes)) (getD (spots .spots) i noSpot) g
+  unfolding g
+  spot = spot-now bytes t₀ t notes o spots from at i G h
+
+  means : meaning body f ≡ g
+  means = ap (λ (b : List ℕ). meaning b f) body-is ∙ spot .means
+
+  la-is : eqb (f .la) 1 ≡ eqb (g .la) 1
+  unfolding meaning
+  la-is = ap (λ (x : FieldOf). eqb (x .la) 1) means
+
+  key-is : key ≡ keyOf g
+  unfolding meaning keyOf
+  key-is = ke ∙ ap keyOf means
+
+  reserved : f .qualifier ≡ 2 → ⊥
+  unfolding g meaning
+  reserved q = good-now bytes t₀ t notes o spots from at i G h .reserved (sym (ap (λ (x : FieldOf). x .qualifier) means) ∙ q)
+
+  -- the key stands at its place, or nowhere
+  here : (ltb p (t .count) && eqb (getD (t .keys) p 0) key) ≡ true → Here c (keyOf g)
+  unfolding c
+  here b =
+      subst (Here c) key-is
+      (is-here t c (G .stored) p key p-is (ltb-true p (t .count) (and-left (ltb p (t .count)) _ b)) (eqb-true _ _ (and-right (ltb p (t .count)) _ b)))
+
+  nowhere : (ltb p (t .count) && eqb (getD (t .keys) p 0) key) ≡ false → Here c (keyOf g) → ⊥
+  unfolding c
+  nowhere b there =
+      let k : Here c key = subst (Here c) (sym key-is) there in
+      decide (ltb p (t .count))
+      (λ l. not-other t c (G .stored) p key p-is (ltb-true p (t .count) l) (eqb-false _ _ (rw l at b)) k)
+      (λ l. not-past t c (G .stored) p key p-is (ltb-false p (t .count) l) k)
+
+  place : p ≡ placeIn (map S.keyIn c) (keyOf g)
+  unfolding c
+  place = p-is ∙ place-at t c (G .stored) key ∙ ap (placeIn (map S.keyIn c)) key-is
+
+  -- ---- a held key
+
+  module _ (b : (ltb p (t .count) && eqb (getD (t .keys) p 0) key) ≡ true) (r : Stepped)
+      (held : HeldStep body f (getD (t .shown) p past) (getD (t .draft) p past) r) where
+    j : ℕ
+    j = placeIn (map S.keyIn c) (keyOf g)
+
+    within : j < length c
+    unfolding j Here
+    within = here b .0
+
+    x : Held
+    x = at' c (keyOf g)
+
+    column : {B : Type 0} (v : Held → B) (d e : B) (ys : Table → List B) → ys (storeTable c) ≡ padded 32 d (map v c) → getD (ys t) p e ≡ v x
+    unfolding c j x
+    column v d e ys q =
+        ap₂ (λ (u : Table) (k : ℕ). getD (ys u) k e) (G .stored) place ∙ ap (λ (l : List _). getD l j e) q ∙ column-at v d e c j within
+
+    shown-is : getD (t .shown) p past ≡ storeMaybe (x .shown)
+    unfolding storeTable shownIn
+    shown-is = column shownIn emptyList past (λ u. u .shown) refl
+
+    draft-is : getD (t .draft) p past ≡ storeMaybe (x .draft)
+    unfolding storeTable draftIn
+    draft-is = column draftIn emptyList past (λ u. u .draft) refl
+
+    draft-meets : ifThere (x .key) (x .draft) ≡ true
+    unfolding c j x
+    draft-meets = entry-facts _ (entry-at c (meets-facts c (G .now-meets) .entries) j within) .draft
+
+    after : Held × Note
+    after = onHeld linkage x (eqb (g .la) 1) (actOf g)
+
+    result : r ≡ steppedAs after
+    unfolding HeldStep after
+    result =
+        held x (eqb (g .la) 1) (spot .found .0) (spot .found .1) (ap (λ (l : List ℕ). fieldStepAt l (spot .found .0)) body-is ∙ spot .found .2) reserved draft-meets shown-is draft-is
+        ∙ ap (λ (y : FieldOf). steppedAs (onHeld linkage x (eqb (g .la) 1) (actOf y))) means
+
+    table-is : setAt t p (eqb (f .la) 1) (r .shown) (r .draft) ≡ storeTable (set c j (after .0))
+    unfolding c j x after steppedAs
+    table-is =
+        (λ k. setAt (G .stored k) (place k) ((la-is ∙ sym (held-state x (eqb (g .la) 1) (actOf g))) k) (result k .shown) (result k .draft))
+        ∙ sym (store-set c j (after .0) within (onHeld-key linkage x (eqb (g .la) 1) (actOf g)))
+
+    pub turn-held : (notes' : Notes) → notes' ≡ notedAt notes i (r .note) → Going bytes t₀ (setAt t p (eqb (f .la) 1) (r .shown) (r .draft)) notes' o spots from at (i + 1)
+    unfolding c g j x after steppedAs
+    turn-held notes' q =
+        going-next bytes t₀ t notes o spots from at i G h _ notes' (after .1) (set c j (after .0))
+        (step-here c g (here b)) table-is (q ∙ ap (λ (y : Stepped). notedAt notes i (y .note)) result)
+
+  -- ---- a key that is not held
+
+  module _ (b : (ltb p (t .count) && eqb (getD (t .keys) p 0) key) ≡ false) where
+    ascending : ascends 0 c ≡ true
+    unfolding c
+    ascending = meets-facts c (G .now-meets) .ascend
+
+    count-is : t .count ≡ length c
+    unfolding c
+    count-is = count-of t c (G .stored)
+
+    act-is : (a : Act linkage) (k : FieldOf → Act linkage) → actOf (meaning body f) ≡ k (meaning body f) → actOf g ≡ k g
+    act-is a k e = subst (λ (y : FieldOf). actOf y ≡ k y) means e
+
+    -- a start, and room
+    pub turn-new : opensIn f (t .count) ≡ true → ((n : ℕ) → getD bytes n 0 < 256) → (l : IdList) (w : Grown) → l ≡ emptyList → w ≡ withField l body f
+        → (t' : Table) → t' ≡ openedTable t p key (eqb (f .la) 1) (w .list) → (notes' : Notes) → notes' ≡ notedAt notes i Opened
+        → Going bytes t₀ t' notes' o spots from at (i + 1)
+    unfolding c g opensIn
+    turn-new open' b256 l w le we t' te notes' q =
+        let has : hasListIn f ≡ true = and-left (hasListIn f) _ (and-left (hasListIn f && not (continues f)) _ open') in
+        let starts : continues f ≡ false = not-true (continues f) (and-right (hasListIn f) _ (and-left (hasListIn f && not (continues f)) _ open')) in
+        let few : length c < 32 = subst (λ (n : ℕ). n < 32) count-is (ltb-true (t .count) 32 (and-right (hasListIn f && not (continues f)) _ open')) in
+        let act : actOf g ≡ start (brings g) = act-is noList (λ y. start (brings y)) (act-start body f has starts) in
+        let list' : w .list ≡ storeList (opening linkage (brings g)) =
+              ap (λ (x : Grown). x .list) (we ∙ ap (λ (x : IdList). withField x body f) le ∙ with-none body f (inside b256) reserved)
+              ∙ ap (λ (y : FieldOf). storeList (opening linkage (brings y))) means in
+        going-next bytes t₀ t notes o spots from at i G h t' notes' Opened (insert linkage (fresh linkage (keyOf g) (eqb (g .la) 1) (brings g)) c)
+        (step-new c g ascending (nowhere b) act few)
+        (te ∙ (λ k. openedTable (G .stored k) p (key-is k) (la-is k) (list' k)) ∙ sym (store-new c (keyOf g) p (eqb (g .la) 1) (brings g) (nowhere b) place few))
+        q
+      where
+        inside : ((n : ℕ) → getD bytes n 0 < 256) → InBody body f
+        inside b256 =
+            fieldStepAt-range body (spot .found .0) f (spot .found .1)
+            (subst (λ (l : List ℕ). (n : ℕ) → getD l n 0 < 256) (sym body-is) (part-bytes (getD (spots .spots) i noSpot .end - getD (spots .spots) i noSpot .start) (getD (spots .spots) i noSpot .start) (take 32 (drop from bytes)) (part-bytes 32 from bytes b256)))
+            (ap (λ (l : List ℕ). fieldStepAt l (spot .found .0)) body-is ∙ spot .found .2) .field
+
+    -- anything else changes nothing
+    same : (n : Note) → step linkage c (said g) ≡ (c, n) → (notes' : Notes) → notes' ≡ notedAt notes i n → Going bytes t₀ t notes' o spots from at (i + 1)
+    unfolding c g
+    same n e notes' q = going-next bytes t₀ t notes o spots from at i G h t notes' n c e (G .stored) q
+
+    pub turn-same : opensIn f (t .count) ≡ false → (n : Note) → n ≡ unheldNote f → (notes' : Notes) → notes' ≡ notedAt notes i n → Going bytes t₀ t notes' o spots from at (i + 1)
+    unfolding opensIn unheldNote
+    turn-same shut' n ne notes' q =
+        decide (hasListIn f)
+        (λ has. decide (continues f)
+          (λ more. same UnknownKey (step-unknown-more c g ascending (nowhere b) (act-is noList (λ y. continuation (brings y)) (act-more body f has more))) notes'
+            (q ∙ ap (notedAt notes i) (ne ∙ rw (has, more))))
+          (λ starts. 
+            let full : 32 ≤ length c = subst (λ (k : ℕ). 32 ≤ k) count-is (ltb-false (t .count) 32 (rw (has, starts) at shut')) in
+            same Full (step-full c g ascending (nowhere b) (act-is noList (λ y. start (brings y)) (act-start body f has starts)) full) notes'
+            (q ∙ ap (notedAt notes i) (ne ∙ rw (has, starts)))))
+        (λ has. same UnknownKey (step-unknown-none c g ascending (nowhere b) (act-is noList (λ y. noList) (act-none body f has))) notes'
+          (q ∙ ap (notedAt notes i) (ne ∙ rw has)))
+
+-- ---- a refused block
+
+closed-draft : (c : Content) → map draftIn (map (closed linkage) c) ≡ replicate (length c) emptyList
+unfolding closed entryWith draftIn storeMaybe
+closed-draft [] = refl
+closed-draft (e ∷ c) = ap (λ (r : List IdList). emptyList ∷ r) (closed-draft c)
+
+same-column : {B : Type 0} (v : Held → B) → ((e : Held) → v (closed linkage e) ≡ v e) → (c : Content) → map v (map (closed linkage) c) ≡ map v c
+same-column v s [] = refl
+same-column v s (e ∷ c) = ap₂ _∷_ (s e) (same-column v s c)
+
+padded-replicate : (n m : ℕ) (d : IdList) → m ≤ n → padded n d (replicate m d) ≡ replicate n d
+unfolding padded
+padded-replicate n m d h =
+    ap (λ (k : ℕ). replicate m d ++ replicate (n - k) d) (length-replicate m d) ∙ replicate-append-replicate m (n - m) d
+    ∙ ap (λ (k : ℕ). replicate k d) (sum m n h)
+  where
+    sum : (m n : ℕ) → m ≤ n → m + (n - m) ≡ n
+    sum m n h = omega arith
+
+keys-same : (e : Held) → S.keyIn (closed linkage e) ≡ S.keyIn e
+unfolding closed entryWith S.keyIn
+keys-same e = refl
+
+on-same : (e : Held) → onIn (closed linkage e) ≡ onIn e
+unfolding closed entryWith onIn
+on-same e = refl
+
+shown-same : (e : Held) → shownIn (closed linkage e) ≡ shownIn e
+unfolding closed entryWith shownIn
+shown-same e = refl
+
+pub store-closed : (c : Content) → length c ≤ 32
+    → storeTable (dropOpen linkage c) ≡ record { count = length c; keys = storeTable c .keys; on = storeTable c .on; shown = storeTable c .shown; draft = replicate 32 emptyList }
+unfolding storeTable dropOpen
+store-closed c h =
+    let n = length-map c (closed linkage) in
+    let ks = ap (padded 32 0) (same-column S.keyIn keys-same c) in
+    let os = ap (padded 32 false) (same-column onIn on-same c) in
+    let ss = ap (padded 32 emptyList) (same-column shownIn shown-same c) in
+    let ds = ap (padded 32 emptyList) (closed-draft c) ∙ padded-replicate 32 (length c) emptyList h in
+    λ i. record { count = n i; keys = ks i; on = os i; shown = ss i; draft = ds i }
+
+-- ---- what keeps the loop's indices within
+
+pub record Fits' (bytes : List ℕ) (spots : Spots) (from i : ℕ) : Type 0 where
+  pub ordered : getD (spots .spots) i noSpot .start ≤ getD (spots .spots) i noSpot .end
+  pub inside : getD (spots .spots) i noSpot .end ≤ 30
+  pub block : from + 32 ≤ length bytes
+  pub few : i < 14
+
+module _ (bytes : List ℕ) (t₀ t : Table) (notes : Notes) (o : Outcome) (spots : Spots) (from at i : ℕ) (G : Going bytes t₀ t notes o spots from at i) where
+  pub fits-now : i < spots .count → Fits' bytes spots from i
+  fits-now h =
+      let s = spot-now bytes t₀ t notes o spots from at i G h in
+      record {
+        ordered = s .ordered; inside = s .inside;
+        block = G .inside (omega (arith, more-fields bytes t₀ t notes o spots from at i G h));
+        few = few-fields bytes t₀ t notes o spots from at i G h }
+
+  pub table-short : t .count ≤ 32
+  table-short = omega (arith, count-of t (G .now') (G .stored), meets-facts (G .now') (G .now-meets) .short)
+
+  pub place-short : (p k : ℕ) → (ltb p (t .count) && eqb (getD (t .keys) p 0) k) ≡ true → p < 32
+  place-short p k b = omega (arith, table-short, ltb-true p (t .count) (and-left (ltb p (t .count)) _ b))
+
+  pub spots-few : spots .count ≤ 14
+  spots-few = omega (arith, G .placed .count, G .placed .few)
+
+-- an outcome that is done is 0
+done-is : (o : Outcome) → isDone o ≡ true → o ≡ Done
+unfolding isDone
+done-is Done e = refl
+done-is NotABlock e = absurd (false≢true e)
+done-is CheckFails e = absurd (false≢true e)
+done-is WrongFig e = absurd (false≢true e)
+done-is WrongField e = absurd (false≢true e)
+done-is WrongValue e = absurd (false≢true e)
+done-is EmptyStart e = absurd (false≢true e)
+done-is NotHeld e = absurd (false≢true e)
+done-is ShortBuffer e = absurd (false≢true e)
+done-is WrongTable e = absurd (false≢true e)
+done-is NotASheet e = absurd (false≢true e)
+done-is NotShown e = absurd (false≢true e)
+
+-- a judged block has at most 14 spots
+pub judged-few : (fib : List ℕ) (r : Judged) → Judges fib r → r .spots .count ≤ 14
+judged-few fib r (isTaken fs v d p) = omega (arith, p .count, p .few)
+judged-few fib r (isRefused o v d z) = omega arith
+judged-few fib r (isNoBlock v d z) = omega arith
+
+-- a turn at a block: taken, or refused with every open list dropped
+module _ (bytes : List ℕ) (t₀ t : Table) (notes : Notes) (o : Outcome) (spots : Spots) (from at i : ℕ) (G : Going bytes t₀ t notes o spots from at i)
+    (h : spots .count ≤ i) (l : 32 ≤ length bytes - at) (b256 : (n : ℕ) → getD bytes n 0 < 256)
+    (part : List ℕ) (part-is : part ≡ take 32 (drop at bytes)) (r : Judged) (notes' : Notes) (none' : notes' ≡ noNotes) where
+  fib : List ℕ
+  fib = take 32 (drop at bytes)
+
+  full : length fib ≡ 32
+  unfolding fib
+  full = length-take 32 (drop at bytes) ∙ ap (min 32) (length-drop at bytes) ∙ omega arith
+
+  never-none : verdict part ≡ noBlock → ⊥
+  unfolding fib
+  never-none v = subst Refusal (ap verdict (sym part-is) ∙ v) (full-refusal fib full)
+
+  closed-table : (n : IdList) → n ≡ emptyList
+      → record { count = t .count; keys = t .keys; on = t .on; shown = t .shown; draft = replicate 32 n } ≡ storeTable (dropOpen linkage (G .now'))
+  closed-table n ne =
+      (λ k. record { count = G .stored k .count; keys = G .stored k .keys; on = G .stored k .on; shown = G .stored k .shown; draft = replicate 32 (ne k) })
+      ∙ ap (λ (m : ℕ). record { count = m; keys = storeTable (G .now') .keys; on = storeTable (G .now') .on; shown = storeTable (G .now') .shown; draft = replicate 32 emptyList }) (count-of (storeTable (G .now')) (G .now') refl)
+      ∙ sym (store-closed (G .now') (meets-facts (G .now') (G .now-meets) .short))
+
+  pub turn-taken : Judges part r → isDone (r .outcome) ≡ true → Going bytes t₀ t notes' (r .outcome) (r .spots) at (at + 32) 0
+  turn-taken (isTaken fs v d p) y =
+      going-taken bytes t₀ t notes o spots from at i G h l b256 fs (r .spots) notes' (r .outcome) (ap verdict (sym part-is) ∙ v) (subst (λ (x : List ℕ). Placed x (r .spots) fs) part-is p) none' d
+  turn-taken (isRefused q v d z) y = absurd (refused-not-done part q v (done-is q (sym (ap isDone d) ∙ y)))
+  turn-taken (isNoBlock v d z) y = absurd (never-none v)
+
+  pub turn-refused : Judges part r → isDone (r .outcome) ≡ false → (none'' : IdList) → none'' ≡ emptyList
+      → Going bytes t₀ (record { count = t .count; keys = t .keys; on = t .on; shown = t .shown; draft = replicate 32 none'' }) notes' (r .outcome) (r .spots) at (at + 32) 0
+  unfolding isDone
+  turn-refused (isTaken fs v d p) y n ne = absurd (true≢false (sym (ap isDone d) ∙ y))
+  turn-refused (isRefused q v d z) y n ne =
+      going-refused bytes t₀ t notes o spots from at i G h l _ (r .spots) notes' (r .outcome) q (ap verdict (sym part-is) ∙ v) d z none'
+      (closed-table n ne)
+  turn-refused (isNoBlock v d z) y n ne = absurd (never-none v)
+
+-- the block that the code hands on
+pub block-part : (bytes : List ℕ) (at : ℕ) → take (at + 32 - at) (drop at bytes) ≡ take 32 (drop at bytes)
+block-part bytes at =
+    let e : at + 32 - at ≡ 32 = omega arith in
+    ap (λ (k : ℕ). take k (drop at bytes)) e

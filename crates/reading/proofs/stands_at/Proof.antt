@@ -1,0 +1,30 @@
+-- `reading::stands_at` meets its contract: past the keys a key counts as 0.
+use mathlib.Core.Path.{_≡_, refl, sym, ap, _∙_}
+use mathlib.Core.Bool.{Bool, true, false, not, cond, _&&_}
+use borrow.Author.Tests.{eq-eqb, ne-eqb, lt-ltb, le-ltb, not-true, not-false}
+use lib.ListN.{List·getD-eq-default}
+use lib.Dec.{eqb}
+use borrow.Author.Needs.{needs}
+use Rattle.reading.proofs.stands_at.Statement.{statement}
+use Rattle.reading.proofs.stands_at.Tie as tie
+use Rattle.reading.proofs.stands_at.Reads as reads
+use Rattle.reading.proofs.stands_at.Lts as lts
+
+returns : tie.Need-returns
+returns c = rw (le-ltb _ _ (c .if1 .taken))
+
+returns-2 : tie.Need-returns-2
+returns-2 c = rw (lt-ltb _ _ (c .before .if1 .left), List·getD-eq-default (c .before .before .args .keys .now) 0 {n = c .before .before .args .at} (c .if2 .taken))
+
+mul-result : tie.Need-mul-result
+mul-result c = search needs
+
+shared-slice-read-result : tie.Need-shared-slice-read-result
+shared-slice-read-result c = search needs
+
+returns-3 : tie.Need-returns-3
+returns-3 c = rw (lt-ltb _ _ (c .before .before .if1 .left))
+
+pub stands-at-spec : {M : Type 1} → statement M
+stands-at-spec =
+    tie.close (tie.spec returns returns-2 mul-result shared-slice-read-result returns-3)

@@ -1,0 +1,85 @@
+-- `text::line_size` meets its contract: the parts' sizes are their lengths.
+use Prim.Native.Nat.{ℕ, _+_, _*_}
+use native.Mathlib.Omega.{arith}
+use mathlib.Core.Path.{_≡_, ap, _∙_}
+use lib.ListN.{length}
+use Rattle.rules.specs.Collecting.{keyWidth}
+use Rattle.rules.specs.Listing.{decimal}
+use Rattle.lists.specs.Stored.{pairsIn}
+use Rattle.lists.proofs.Pairs.{length-pairs-in}
+use Rattle.text.proofs.Texts.{length-line}
+use borrow.Author.Needs.{needs}
+use Rattle.text.proofs.line_size.Statement.{statement}
+use Rattle.text.proofs.line_size.Tie as tie
+
+mark-size-requires : tie.Need-mark-size-requires
+mark-size-requires c κs = tt
+
+mark-size-requires-2 : tie.Need-mark-size-requires-2
+mark-size-requires-2 c κs = tt
+
+least-requires : tie.Need-least-requires
+least-requires c κs = tt
+
+state-size-requires : tie.Need-state-size-requires
+state-size-requires c κs = tt
+
+add-result : tie.Need-add-result
+add-result c = search needs
+
+add-result-2 : tie.Need-add-result-2
+add-result-2 c = search needs
+
+decimal-size-requires : tie.Need-decimal-size-requires
+decimal-size-requires c κs = tt
+
+add-result-3 : tie.Need-add-result-3
+add-result-3 c = search needs
+
+pairs-size-requires : tie.Need-pairs-size-requires
+pairs-size-requires c κs = search needs
+
+add-result-4 : tie.Need-add-result-4
+add-result-4 c = search needs
+
+add-result-5 : tie.Need-add-result-5
+add-result-5 c = search needs
+
+add-result-6 : tie.Need-add-result-6
+add-result-6 c = search needs
+
+add-result-7 : tie.Need-add-result-7
+add-result-7 c = search needs
+
+returns : tie.Need-returns
+returns c =
+    let a = c .before .before .before .before .before .before .before .before .before .before .before .before .before .before .before .before .args in
+    let ns : length (a .t3 .numbers) ≡ 128 = search needs in
+    let ks : length (a .t3 .kinds) ≡ 128 = search needs in
+    let n : c .before .before .before .least .result ≡ length (pairsIn (a .t3 .kinds) (a .t3 .numbers) (a .t3 .len)) =
+    omega (arith, c .before .before .before .least .ensures, length-pairs-in (a .t3 .kinds) (a .t3 .numbers) (a .t3 .len)) in
+    length-line (a .key) (a .on) (a .t3)
+    (c .before .before .state-size .ensures .0)
+    (c .before .decimal-size .ensures .0 ∙ ap (λ (k : ℕ). length (decimal k)) n)
+    (c .pairs-size .ensures .0 ∙ ap (λ (k : ℕ). k * (2 + 2 * keyWidth (a .key))) n)
+    (c .before .before .before .before .before .before .before .before .before .before .mark-size .ensures .0)
+    (c .before .before .before .before .mark-size2 .ensures .0)
+
+pub line-size-spec : {M : Type 1} → statement M
+line-size-spec =
+    tie.close
+    (tie.spec
+    mark-size-requires
+    mark-size-requires-2
+    least-requires
+    state-size-requires
+    add-result
+    add-result-2
+    decimal-size-requires
+    add-result-3
+    pairs-size-requires
+    add-result-4
+    add-result-5
+    add-result-6
+    add-result-7
+    returns)

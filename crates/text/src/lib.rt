@@ -1,0 +1,296 @@
+// The listing's text (document 01, example 16), over lent bytes: the first line, the line of a set and
+// the tail. Every function is proved and none that is `pub` has a `requires`. For each line there are
+// its size, a writer at a place of a buffer, and a function that refuses a buffer that is too short
+// and else writes the line at its front.
+use lists::IdList;
+use lists::least;
+use lists::width_of;
+use out::Written;
+use out::cut_to;
+use out::decimal_size;
+use out::put;
+use out::put_bytes;
+use out::put_decimal;
+use out::put_hex;
+use rules::Outcome;
+ghost use mathlib.Core.Path.{_≡_};
+ghost use mathlib.Core.Bool.{not, _&&_};
+ghost use mathlib.Core.List.{[], _∷_, _++_};
+ghost use Prim.Native.Nat.{_+_, _*_, _≤_};
+ghost use lib.ListN.{length};
+ghost use Rattle.rules.specs.Field.{pair};
+ghost use Rattle.rules.specs.Collecting.{keyWidth};
+ghost use Rattle.rules.specs.Air.{hasKind, writtenTo};
+ghost use Rattle.rules.specs.Listing.{hexText, decimal, kindLetter, pairText, pairsText, deadText, stateText, idsText, lineOf, tailText};
+ghost use Rattle.lists.specs.Stored.{pairsIn};
+ghost use Rattle.out.specs.Put.{Puts};
+ghost use Rattle.out.specs.Answer.{writtenAs};
+ghost use Rattle.text.specs.Lines.{shownAs, setsText};
+
+// ---- the parts of a set's line
+
+// The letter of a kind: D, R, M.
+pub fn letter_of(kind: u8) -> u8
+    ensures { λ r. ⌜ r ≡ kindLetter kind ⌝ }
+{
+    if kind == 0 {
+        68
+    } else if kind == 1 {
+        82
+    } else {
+        77
+    }
+}
+
+// Whether a kind stands among these pairs.
+pub fn has_kind<'a>(kind: u8, numbers: &'a [u32], kinds: &'a [u8], len: usize) -> bool
+    ensures { λ r. ⌜ r ≡ hasKind kind (pairsIn (now (kinds .entry)) (now (numbers .entry)) len) ⌝ }
+{
+    let end = least(len, least(kinds.len(), numbers.len()));
+    let mut i = 0;
+    while i < end {
+        if kinds[i] == kind {
+            return true;
+        }
+        i += 1;
+    }
+    false
+}
+
+// Whether a kind, named or not, is a named kind without identifiers.
+pub fn is_dead<'a>(kind: u8, named: bool, numbers: &'a [u32], kinds: &'a [u8], len: usize) -> bool
+    ensures { λ r. ⌜ r ≡ (named && not (hasKind kind (pairsIn (now (kinds .entry)) (now (numbers .entry)) len))) ⌝ }
+{
+    if named {
+        !has_kind(kind, numbers, kinds, len)
+    } else {
+        false
+    }
+}
+
+// The mark of such a kind at a place, ` R-` or ` M-`; nothing of another.
+pub fn put_mark<'a>(
+    out: &mut [u8],
+    at: usize,
+    kind: u8,
+    named: bool,
+    numbers: &'a [u32],
+    kinds: &'a [u8],
+    len: usize,
+) -> usize
+    ensures { λ r. ⌜ Puts (now (out .entry)) at (deadText kind named (pairsIn (now (kinds .entry)) (now (numbers .entry)) len)) (now (out .exit)) r ⌝ }
+{
+    if is_dead(kind, named, numbers, kinds, len) {
+        let p = put(out, at, 32);
+        let q = put(out, p, letter_of(kind));
+        put(out, q, 45)
+    } else {
+        cut_to(at, out.len())
+    }
+}
+
+// The size of that.
+fn mark_size<'a>(kind: u8, named: bool, numbers: &'a [u32], kinds: &'a [u8], len: usize) -> usize
+    ensures { λ r. ⌜ (r ≡ length (deadText kind named (pairsIn (now (kinds .entry)) (now (numbers .entry)) len))) × (r ≤ 3) ⌝ }
+{
+    if is_dead(kind, named, numbers, kinds, len) {
+        3
+    } else {
+        0
+    }
+}
+
+// An identifier of a key at a place: a blank, its letter, and its number in 4, 6 or 8 digits.
+pub fn put_pair(out: &mut [u8], at: usize, key: u32, kind: u8, number: u32) -> usize
+    ensures { λ r. ⌜ Puts (now (out .entry)) at (pairText (keyWidth key) (pair kind number)) (now (out .exit)) r ⌝ }
+{
+    let p = put(out, at, 32);
+    let q = put(out, p, letter_of(kind));
+    put_hex(out, q, 2 * width_of(key), number)
+}
+
+// The identifiers of a key at a place.
+pub fn put_pairs<'a>(
+    out: &mut [u8],
+    at: usize,
+    key: u32,
+    numbers: &'a [u32],
+    kinds: &'a [u8],
+    len: usize,
+) -> usize
+    ensures { λ r. ⌜ Puts (now (out .entry)) at (pairsText (keyWidth key) (pairsIn (now (kinds .entry)) (now (numbers .entry)) len)) (now (out .exit)) r ⌝ }
+{
+    let end = least(len, least(kinds.len(), numbers.len()));
+    let mut p = cut_to(at, out.len());
+    let mut i = 0;
+    while i < end {
+        p = put_pair(out, p, key, kinds[i], numbers[i]);
+        i += 1;
+    }
+    p
+}
+
+// The size of this many identifiers of a key.
+fn pairs_size(key: u32, n: usize) -> usize
+    requires { ⌜ n ≤ 128 ⌝ }
+    ensures { λ r. ⌜ (r ≡ n * (2 + 2 * keyWidth key)) × (r ≤ 1280) ⌝ }
+{
+    n * (2 + 2 * width_of(key))
+}
+
+// A blank and on or off at a place.
+pub fn put_state(out: &mut [u8], at: usize, on: bool) -> usize
+    ensures { λ r. ⌜ Puts (now (out .entry)) at (32 ∷ stateText on) (now (out .exit)) r ⌝ }
+{
+    if on {
+        put_bytes(out, at, b" on")
+    } else {
+        put_bytes(out, at, b" off")
+    }
+}
+
+// The size of that.
+fn state_size(on: bool) -> usize
+    ensures { λ r. ⌜ (r ≡ length (32 ∷ stateText on)) × (r ≤ 4) ⌝ }
+{
+    if on { 3 } else { 4 }
+}
+
+// A word and a count at a place.
+pub fn put_counted<'a>(out: &mut [u8], at: usize, word: &'a [u8], n: usize) -> usize
+    ensures { λ r. ⌜ Puts (now (out .entry)) at (now (word .entry) ++ decimal n) (now (out .exit)) r ⌝ }
+{
+    let p = put_bytes(out, at, word);
+    put_decimal(out, p, n)
+}
+
+// ---- the line of a set
+
+// The line up to the identifiers, of which there are n, at a place.
+pub fn put_head(out: &mut [u8], at: usize, key: u32, on: bool, n: usize) -> usize
+    ensures { λ r. ⌜ Puts (now (out .entry)) at (hexText 4 key ++ 32 ∷ stateText on ++ idsText n) (now (out .exit)) r ⌝ }
+{
+    let p = put_hex(out, at, 4, key);
+    let q = put_state(out, p, on);
+    put_counted(out, q, b" ids ", n)
+}
+
+// The size of the line of a set.
+pub fn line_size(key: u32, on: bool, list: IdList) -> usize
+    ensures { λ r. ⌜ r ≡ length (lineOf (shownAs key on list)) ⌝ }
+{
+    let len = list.len;
+    let rds = list.named % 2 == 1;
+    let drm = list.named / 2 == 1;
+    let r = mark_size(1, rds, &list.numbers, &list.kinds, len);
+    let m = mark_size(3, drm, &list.numbers, &list.kinds, len);
+    let n = least(len, 128);
+    4 + state_size(on) + 5 + decimal_size(n) + pairs_size(key, n) + r + m + 1
+}
+
+// The line of a set at a place.
+pub fn put_line(out: &mut [u8], at: usize, key: u32, on: bool, list: IdList) -> usize
+    ensures { λ r. ⌜ Puts (now (out .entry)) at (lineOf (shownAs key on list)) (now (out .exit)) r ⌝ }
+{
+    let len = list.len;
+    let rds = list.named % 2 == 1;
+    let drm = list.named / 2 == 1;
+    let p = put_head(out, at, key, on, least(len, 128));
+    let q = put_pairs(out, p, key, &list.numbers, &list.kinds, len);
+    let r = put_mark(out, q, 1, rds, &list.numbers, &list.kinds, len);
+    let m = put_mark(out, r, 3, drm, &list.numbers, &list.kinds, len);
+    put(out, m, 10)
+}
+
+// The line of a set at the front of a buffer; a buffer that is too short stays as it is.
+pub fn set_line(key: u32, on: bool, list: IdList, out: &mut [u8]) -> Written
+    ensures { λ r. ⌜ writtenAs r (now (out .exit)) ≡ writtenTo (lineOf (shownAs key on list)) (now (out .entry)) ⌝ }
+{
+    if out.len() < line_size(key, on, list) {
+        return Written {
+            outcome: Outcome::ShortBuffer,
+            size: 0,
+        };
+    }
+    let end = put_line(out, 0, key, on, list);
+    Written {
+        outcome: Outcome::Done,
+        size: end,
+    }
+}
+
+// ---- the first line and the tail
+
+// A line that is a word and a count, at a place.
+pub fn put_number_line<'a>(out: &mut [u8], at: usize, word: &'a [u8], n: usize) -> usize
+    ensures { λ r. ⌜ Puts (now (out .entry)) at (now (word .entry) ++ decimal n ++ 10 ∷ []) (now (out .exit)) r ⌝ }
+{
+    let p = put_counted(out, at, word, n);
+    put(out, p, 10)
+}
+
+// The size of the first line.
+pub fn first_size(count: usize) -> usize
+    ensures { λ r. ⌜ r ≡ length (setsText count) ⌝ }
+{
+    6 + decimal_size(count)
+}
+
+// The first line at a place.
+pub fn put_first(out: &mut [u8], at: usize, count: usize) -> usize
+    ensures { λ r. ⌜ Puts (now (out .entry)) at (setsText count) (now (out .exit)) r ⌝ }
+{
+    put_number_line(out, at, b"sets ", count)
+}
+
+// The first line at the front of a buffer; a buffer that is too short stays as it is.
+pub fn first_line(count: usize, out: &mut [u8]) -> Written
+    ensures { λ r. ⌜ writtenAs r (now (out .exit)) ≡ writtenTo (setsText count) (now (out .entry)) ⌝ }
+{
+    if out.len() < first_size(count) {
+        return Written {
+            outcome: Outcome::ShortBuffer,
+            size: 0,
+        };
+    }
+    let end = put_first(out, 0, count);
+    Written {
+        outcome: Outcome::Done,
+        size: end,
+    }
+}
+
+// The size of the tail: 0 where no byte is left over.
+pub fn tail_size(over: usize) -> usize
+    ensures { λ r. ⌜ r ≡ length (tailText over) ⌝ }
+{
+    if over == 0 { 0 } else { 6 + decimal_size(over) }
+}
+
+// The tail at a place.
+pub fn put_tail(out: &mut [u8], at: usize, over: usize) -> usize
+    ensures { λ r. ⌜ Puts (now (out .entry)) at (tailText over) (now (out .exit)) r ⌝ }
+{
+    if over == 0 {
+        cut_to(at, out.len())
+    } else {
+        put_number_line(out, at, b"tail ", over)
+    }
+}
+
+// The tail at the front of a buffer; a buffer that is too short stays as it is.
+pub fn tail_line(over: usize, out: &mut [u8]) -> Written
+    ensures { λ r. ⌜ writtenAs r (now (out .exit)) ≡ writtenTo (tailText over) (now (out .entry)) ⌝ }
+{
+    if out.len() < tail_size(over) {
+        return Written {
+            outcome: Outcome::ShortBuffer,
+            size: 0,
+        };
+    }
+    let end = put_tail(out, 0, over);
+    Written {
+        outcome: Outcome::Done,
+        size: end,
+    }
+}
