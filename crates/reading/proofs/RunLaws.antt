@@ -1,6 +1,6 @@
 -- The loop that reads blocks: what it keeps (`Going`), and one turn of it. In order: notes as they are stored; a field more;
 -- a block more, taken or refused; the end.
-use Prim.Native.Nat.{ℕ, zero, suc, _+_, _-_, _*_, _/_, _<_, _≤_, suc-le-suc}
+use Prim.Native.Nat.{ℕ, zero, suc, _+_, _-_, _*_, _/_, _%_, _<_, _≤_, suc-le-suc}
 use native.Mathlib.Nat.{le-of-suc-le-suc, not-suc-le-zero}
 use native.Mathlib.Numerals.{add-one}
 use native.Mathlib.Omega.{arith}
@@ -9,22 +9,22 @@ use mathlib.Core.Bool.{Bool, true, false, cond}
 use mathlib.Core.List.{List, [], _∷_, _++_, map, append-assoc, append-nil, map-append}
 use mathlib.Core.Option.{Option, none, some}
 use lib.ListN.{length, getD, set, take, drop, replicate, length-append, length-map, length-take, length-drop}
-use lib.Seq.{drop-cons, drop-drop, set-at, append-snoc, drop-length, getD-take, getD-drop}
+use lib.Seq.{drop-cons, drop-drop, set-at, append-snoc, drop-length, getD-take, getD-drop, take-all}
 use lib.Dec.{ltb}
 use lib.ListN.{List·getD-eq-default}
 use borrow.Author.Tests.{ltb-true, ltb-false}
 use Rattle.lists.proofs.Pairs.{decide}
 use Rattle.rules.specs.declared.Outcome.{Outcome}
-use Rattle.rules.specs.declared.Outcome.the-variants.{Done}
+use Rattle.rules.specs.declared.Outcome.the-variants.{Done, NotABlock}
 use Rattle.rules.specs.declared.Note.{Note}
 use Rattle.rules.specs.declared.Note.the-variants.{Opened}
 use Rattle.rules.specs.Field.{Field as FieldOf}
 use Rattle.rules.specs.Family.{step, steps, dropOpen, closed}
 use Rattle.rules.specs.Collecting.{linkage, Held, Content, said, meets}
-use Rattle.rules.specs.Outcomes.{Verdict, taken, refused, verdict, Answer, answerTo, readBlock}
+use Rattle.rules.specs.Outcomes.{Verdict, taken, refused, verdict, Answer, answerTo, readBlock, readBlocks, readRecording, leftOver}
 use Rattle.rules.proofs.Basics.{Every}
 use Rattle.rules.proofs.Taken.{GoodField, taken-good}
-use Rattle.rules.proofs.LinkageLaws.{Meets, table-meets, meets-steps, meets-drop-open, answer-taken, answer-refused, bytes-list}
+use Rattle.rules.proofs.LinkageLaws.{Meets, table-meets, meets-steps, meets-drop-open, answer-taken, answer-refused, bytes-list, no-block}
 use Rattle.lists.specs.Stored.{padded, emptyList, storeMaybe}
 use Rattle.table.specs.declared.Table.{Table}
 use Rattle.table.specs.Stored.{storeTable, draftIn, keyIn, onIn, shownIn}
@@ -32,9 +32,10 @@ use Rattle.block.specs.declared.Spots.{Spots}
 use Rattle.block.specs.Judged.{Placed, noSpots, noField, SpotIs, noSpot}
 use Rattle.reading.specs.declared.Notes.{Notes}
 use Rattle.reading.specs.declared.Noted.{Noted}
-use Rattle.reading.specs.declared.Run.{Run}
+use Rattle.reading.specs.declared.Answer.{Answer as Run}
 use Rattle.reading.specs.Steps.{storeNotes, notedAs, notedAt, noNotes}
-use Rattle.reading.specs.Runs.{begun, runBlocks, runAs, Runs}
+use Rattle.reading.specs.Runs.{begun, runBlocks, runAs, Runs, recordedAs}
+use Rattle.reading.specs.declared.Recorded.{Recorded}
 
 -- ---- notes as they are stored
 
@@ -227,3 +228,29 @@ module _ (bytes : List ℕ) (t₀ t : Table) (notes : Notes) (o : Outcome) (spot
       let whole = answer-now h ∙ ap (λ (n : ℕ). runBlocks n (record { outcome = o; notes = G .noted; left = G .now' }) (drop at bytes)) e in
       (G .first, G .first-meets, G .first-stored,
       (λ j. record { outcome = o; notes = G .notes-are j; table = G .stored j }) ∙ ap runAs (sym whole))
+
+-- ---- one block, and a whole recording
+
+pub run-left : (n : ℕ) (a : Answer) (bytes : List ℕ) → runBlocks n a bytes .left ≡ readBlocks n (a .left) bytes
+unfolding runBlocks readBlocks
+run-left zero a bytes = refl
+run-left (suc n) a bytes = run-left n (readBlock (a .left) (take 32 bytes)) (drop 32 bytes)
+
+pub run-one : (c : Content) (fib : List ℕ) → length fib ≡ 32 → runBlocks (length fib / 32) (begun c) fib ≡ readBlock c fib
+unfolding runBlocks begun
+run-one c fib l =
+    let e : length fib / 32 ≡ 1 = omega arith in
+    ap (λ (n : ℕ). runBlocks n (begun c) fib) e ∙ ap (readBlock c) (take-all 32 fib (omega arith))
+
+pub not-a-block : (c : Content) (t : Table) (fib : List ℕ) (ns : Notes) → t ≡ storeTable c → (length fib ≡ 32 → ⊥) → ns ≡ noNotes
+    → record { outcome = NotABlock; notes = ns; table = t } ≡ runAs (readBlock c fib)
+unfolding runAs
+not-a-block c t fib ns e n z =
+    (λ i. record { outcome = NotABlock; notes = (z ∙ no-notes) i; table = e i }) ∙ ap runAs (sym (no-block c fib n))
+
+pub recorded : (c : Content) (bytes : List ℕ) (a : Run) → a ≡ runAs (runBlocks (length bytes / 32) (begun c) bytes)
+    → record { outcome = Done; rest = length bytes % 32; table = a .table } ≡ recordedAs c bytes
+unfolding recordedAs leftOver readRecording runAs begun
+recorded c bytes a e =
+    ap (λ (t : Table). record { outcome = Done; rest = length bytes % 32; table = t })
+    (ap (λ (x : Run). x .table) e ∙ ap storeTable (run-left (length bytes / 32) (begun c) bytes))

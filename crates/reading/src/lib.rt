@@ -7,11 +7,12 @@ ghost use Prim.Native.Nat.{_<_};
 ghost use mathlib.Core.Bool.{_&&_};
 ghost use lib.ListN.{length, getD, set};
 ghost use lib.Dec.{ltb, eqb};
-ghost use Rattle.table.specs.Stored.{Stored};
+ghost use Rattle.rules.specs.Outcomes.{readBlock};
+ghost use Rattle.table.specs.Stored.{Stored, Given};
 ghost use Rattle.lists.specs.Grown.{withField};
 ghost use Rattle.lists.specs.Stored.{emptyList};
 ghost use Rattle.reading.specs.Steps.{HeldStep, opensIn, unheldNote, noNotes, notedAt, isDone};
-ghost use Rattle.reading.specs.Runs.{Runs};
+ghost use Rattle.reading.specs.Runs.{Runs, runAs, refusedTable, recordedAs, unrecorded};
 
 use block::Spots;
 
@@ -134,16 +135,17 @@ fn is_done(outcome: Outcome) -> bool
     }
 }
 
-// What reading blocks one after the other comes to: the last one's outcome and notes, and the table.
-struct Run {
-    outcome: Outcome,
-    notes: Notes,
-    table: Table,
+// The answer to a block: its outcome, one note a field where it is taken, and the table then. After
+// several blocks, the answer to the last.
+pub struct Answer {
+    pub outcome: Outcome,
+    pub notes: Notes,
+    pub table: Table,
 }
 
 // Reads the whole blocks of some bytes in order, field by field. The table stays in this function: it
 // is not copied for a block. A turn takes one field of the present block, or judges the next block.
-fn run_blocks(table: Table, bytes: &[u8]) -> Run
+fn run_blocks(table: Table, bytes: &[u8]) -> Answer
     requires { ⌜ Stored table ⌝ }
     ensures { λ r. ⌜ Runs table (now (bytes .entry)) r ⌝ }
 {
@@ -187,7 +189,7 @@ fn run_blocks(table: Table, bytes: &[u8]) -> Run
             }
         } else {
             if bytes.len() - at < 32 {
-                return Run { outcome, notes, table: t };
+                return Answer { outcome, notes, table: t };
             }
             from = at;
             at += 32;
@@ -201,4 +203,36 @@ fn run_blocks(table: Table, bytes: &[u8]) -> Run
             }
         }
     }
+}
+
+// Reads one block into a table: 9, then 1 to 6, or 0 with one note a field.
+pub fn read_block(table: Table, fib: &[u8]) -> Answer
+    ensures { λ r. ⌜ Given table (λ c. r ≡ runAs (readBlock c (now (fib .entry)))) (r ≡ refusedTable table) ⌝ }
+{
+    if !table.meets() {
+        return Answer { outcome: Outcome::WrongTable, notes: Notes::none(), table };
+    }
+    if fib.len() != 32 {
+        return Answer { outcome: Outcome::NotABlock, notes: Notes::none(), table };
+    }
+    run_blocks(table, fib)
+}
+
+// What reading a whole recording leaves: 0 or 9, how many bytes were left over, and the table.
+pub struct Recorded {
+    pub outcome: Outcome,
+    pub rest: usize,
+    pub table: Table,
+}
+
+// Reads the whole blocks of a recording in order, refused ones too. The table is tested once.
+pub fn read_recording(table: Table, bytes: &[u8]) -> Recorded
+    ensures { λ r. ⌜ Given table (λ c. r ≡ recordedAs c (now (bytes .entry))) (r ≡ unrecorded table) ⌝ }
+{
+    if !table.meets() {
+        return Recorded { outcome: Outcome::WrongTable, rest: 0, table };
+    }
+    let run = run_blocks(table, bytes);
+    let left = run.table;
+    Recorded { outcome: Outcome::Done, rest: bytes.len() % 32, table: left }
 }
