@@ -10,9 +10,9 @@ use Rattle.rules.specs.declared.Outcome.the-variants.{NotABlock, CheckFails}
 use Rattle.rules.specs.Block.{checkHolds}
 use Rattle.rules.specs.Outcomes.{verdict}
 use Rattle.block.specs.declared.Judged.{Judged}
-use Rattle.block.specs.Judged.{noSpots, Judges, isTaken, isRefused, isNoBlock}
-use Rattle.block.specs.Faults.{Answers, done, not, JudgesFigs}
-use Rattle.block.proofs.Placing.{no-count}
+use Rattle.block.specs.Judged.{noSpots, Judges, isNoBlock}
+use Rattle.block.specs.Faults.{JudgesFigs}
+use Rattle.block.proofs.Placing.{no-count, refuses-as}
 
 module _ (fib : List ℕ) (r : Judged) where
   pub judges-no-block : (length fib ≡ 32 → ⊥) → r ≡ record { outcome = NotABlock; spots = noSpots } → Judges fib r
@@ -26,11 +26,8 @@ module _ (fib : List ℕ) (r : Judged) where
 
     pub judges-check : b ≡ false → r ≡ record { outcome = CheckFails; spots = noSpots } → Judges fib r
     unfolding verdict
-    judges-check f e =
-        isRefused CheckFails (rw (eq-eqb (length fib) 32 l, check-is ∙ f)) (ap (λ (x : Judged). x .outcome) e)
-        (ap (λ (x : Judged). x .spots .count) e ∙ no-count)
+    judges-check f e = refuses-as fib (verdict fib) CheckFails r (rw (eq-eqb (length fib) 32 l, check-is ∙ f)) e
 
     pub judges-figs : b ≡ true → JudgesFigs fib r → Judges fib r
     unfolding verdict JudgesFigs
-    judges-figs h (done fs v o p) = isTaken fs (rw (eq-eqb (length fib) 32 l, check-is ∙ h) v) o p
-    judges-figs h (not x v o n) = isRefused x (rw (eq-eqb (length fib) 32 l, check-is ∙ h) v) o n
+    judges-figs h j = rw (eq-eqb (length fib) 32 l, check-is ∙ h) j

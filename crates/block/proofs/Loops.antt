@@ -5,12 +5,10 @@ use native.Mathlib.Omega.{arith}
 use mathlib.Core.Path.{_≡_, refl, sym, ap, ap₂, _∙_, subst}
 use mathlib.Core.Bool.{Bool, true, false, cond}
 use mathlib.Core.List.{List, [], _∷_, _++_}
-use lib.ListN.{length, getD, set, take, drop, length-take, length-drop, length-set}
-use lib.Dec.{leb}
-use Rattle.rules.specs.declared.Outcome.{Outcome}
+use lib.ListN.{length, take, drop, length-take, length-drop, length-set}
 use Rattle.rules.specs.declared.Outcome.the-variants.{WrongFig}
-use Rattle.rules.specs.Block.{Step, item, end, wrong, Walk, whole, broken, after, walk, Fig as FigOf, figAt, figs}
-use Rattle.rules.specs.Field.{Field as FieldOf, isLinking, fieldAt, fieldsOf}
+use Rattle.rules.specs.Block.{item, end, wrong, Walk, whole, broken, after, walk, Fig as FigOf, figAt, figs}
+use Rattle.rules.specs.Field.{Field as FieldOf, fieldAt, fieldsOf}
 use Rattle.rules.specs.Outcomes.{Verdict, joined, judgeFigs}
 use Rattle.rules.proofs.Taken.{walk-item, walk-end, walk-wrong, field-item}
 use Rattle.figs.specs.declared.Cursor.{Cursor}
@@ -19,16 +17,15 @@ use Rattle.figs.specs.Figs.{stepAt, found as figFound}
 use Rattle.figs.proofs.Laws.{stepAt-means, stepAt-range, Lies}
 use Rattle.field.specs.declared.Field.{Field}
 use Rattle.field.specs.declared.FieldStep.the-variants.{Found, End, Wrong}
-use Rattle.field.specs.FieldStep.{linking, fieldStepAt, meaning, found, wrongIn, emptyIn}
+use Rattle.field.specs.FieldStep.{linking, fieldStepAt, meaning, found}
 use Rattle.field.proofs.Laws.{fieldStepAt-means, wrong-value-means, empty-start-means}
-use Rattle.block.specs.declared.Spot.{Spot}
 use Rattle.block.specs.declared.Spots.{Spots}
 use Rattle.block.specs.declared.Pushed.{Pushed}
 use Rattle.block.specs.declared.Judged.{Judged}
-use Rattle.block.specs.Judged.{SpotIs, noSpots, Placed}
-use Rattle.block.specs.Faults.{faultIn, faultOf, verdictOf, judgeFrom, fieldsIn, CanPush, Pushes, Answers, not, Concludes, JudgesFigs}
+use Rattle.block.specs.Judged.{SpotIs, noSpots, Placed, JudgedAs}
+use Rattle.block.specs.Faults.{faultIn, faultOf, judgeFrom, fieldsIn, CanPush, Pushes, Concludes, JudgesFigs}
 use Rattle.block.proofs.Verdicts.{joined-none, joined-after, judge-after, judge-broken, faultOf-range, judgeFigsFrom, figs-first, figs-linking, figs-other, figs-none, figs-wrong}
-use Rattle.block.proofs.Placing.{placed-none, no-count, no-length, withSpot, placed-more}
+use Rattle.block.proofs.Placing.{placed-none, no-count, withSpot, placed-more, refuses-as}
 
 -- ---- a field that is found
 
@@ -73,8 +70,8 @@ pub record FieldsSoFar (fib : List ℕ) (start stop fault₀ : ℕ) (spots₀ : 
       × (stop < start + at + n)
       × (Placed fib spots gs)
       × ((rest : Walk FieldOf)
-        → judgeFrom fault₀ fs (joined (fieldsIn fib start stop) rest)
-          ≡ judgeFrom fault gs (joined (walk (fieldAt (body fib start stop)) n at) rest))
+      → judgeFrom fault₀ fs (joined (fieldsIn fib start stop) rest)
+      ≡ judgeFrom fault gs (joined (walk (fieldAt (body fib start stop)) n at) rest))
 
 -- before the first field
 pub fields-first : (fib : List ℕ) (start stop : ℕ) (before : Pushed) → CanPush fib start stop before → length (before .spots .spots) ≡ 14
@@ -96,6 +93,23 @@ module _ (fib : List ℕ) (start stop fault₀ : ℕ) (spots₀ : Spots) (fault 
   spare : (n : ℕ) → stop < start + at + n → (m : ℕ) × (n ≡ suc m)
   spare zero h = absurd (omega (arith, so .within))
   spare (suc m) h = (m, refl)
+
+  module _ (fs : List FieldOf) (q : Placed fib spots₀ fs) where
+    -- the steps left after this one
+    fewer : ℕ
+    fewer = spare (so .fields fs q .1) (so .fields fs q .2) .0
+
+    fewer-is : so .fields fs q .1 ≡ suc fewer
+    unfolding fewer
+    fewer-is = spare (so .fields fs q .1) (so .fields fs q .2) .1
+
+    -- the verdict from here, by what the walk comes to
+    fields-judged : (w : Walk FieldOf) → walk (fieldAt (body fib start stop)) (suc fewer) at ≡ w → (rest : Walk FieldOf)
+        → judgeFrom fault₀ fs (joined (fieldsIn fib start stop) rest) ≡ judgeFrom fault (so .fields fs q .0) (joined w rest)
+    fields-judged w e rest =
+        so .fields fs q .4 rest
+        ∙ ap (λ (v : Walk FieldOf). judgeFrom fault (so .fields fs q .0) (joined v rest))
+        (ap (λ (k : ℕ). walk (fieldAt (body fib start stop)) k at) fewer-is ∙ e)
 
   module _ (f : Field) (next : ℕ) (e : fieldStepAt (body fib start stop) at ≡ Found f next) where
     stands : (at + 2 ≤ next) × (start + next ≤ stop)
@@ -130,17 +144,20 @@ module _ (fib : List ℕ) (start stop fault₀ : ℕ) (spots₀ : Spots) (fault 
           least = omega (arith, so .least);
           most = omega (arith, so .most);
           fields = λ fs q.
-              let w = so .fields fs q in
-              let m = spare (w .1) (w .2) in
+              let gs = so .fields fs q .0 in
               let x = meaning (body fib start stop) f in
-              let here = walk-item (fieldAt (body fib start stop)) (m .0) at x next (item-found (body fib start stop) at f next e) in
-              (w .0 ++ x ∷ [], m .0, omega (arith, stands, w .2, m .1), placed-more fib spots (w .0) _ x (w .3) (so .array) field-room spot,
-              λ rest. w .4 rest
-                ∙ ap (λ (k : ℕ). judgeFrom fault (w .0) (joined (walk (fieldAt (body fib start stop)) k at) rest)) (m .1)
-                ∙ ap (λ (v : Walk FieldOf). judgeFrom fault (w .0) (joined v rest)) here
-                ∙ ap (judgeFrom fault (w .0)) (joined-after x (walk (fieldAt (body fib start stop)) (m .0) next) rest)
-                ∙ judge-after fault (w .0) x (joined (walk (fieldAt (body fib start stop)) (m .0) next) rest)
-                ∙ ap (λ (k : ℕ). judgeFrom (min fault k) (w .0 ++ x ∷ []) (joined (walk (fieldAt (body fib start stop)) (m .0) next) rest)) (sym same));
+              let n = fewer fs q in
+              let rest-of = walk (fieldAt (body fib start stop)) n next in
+              let here = walk-item (fieldAt (body fib start stop)) n at x next (item-found (body fib start stop) at f next e) in (
+                gs ++ x ∷ [],
+                n,
+                omega (arith, stands, so .fields fs q .2, fewer-is fs q),
+                placed-more fib spots gs _ x (so .fields fs q .3) (so .array) field-room spot,
+                λ rest. fields-judged fs q _ here rest
+                    ∙ ap (judgeFrom fault gs) (joined-after x rest-of rest)
+                    ∙ judge-after fault gs x (joined rest-of rest)
+                    ∙ ap (λ (k : ℕ). judgeFrom (min fault k) (gs ++ x ∷ []) (joined rest-of rest)) (sym same),
+              );
         }
 
   -- at the end of the body nothing of it is to come
@@ -152,14 +169,11 @@ module _ (fib : List ℕ) (start stop fault₀ : ℕ) (spots₀ : Spots) (fault 
         least = so .least;
         most = so .most;
         fields = λ fs q.
-            let w = so .fields fs q in
-            let m = spare (w .1) (w .2) in
-            let here = walk-end (fieldAt (body fib start stop)) (m .0) at (end-found (body fib start stop) at e) in
-            (w .0, w .3,
-            λ rest. w .4 rest
-              ∙ ap (λ (k : ℕ). judgeFrom fault (w .0) (joined (walk (fieldAt (body fib start stop)) k at) rest)) (m .1)
-              ∙ ap (λ (v : Walk FieldOf). judgeFrom fault (w .0) (joined v rest)) here
-              ∙ ap (judgeFrom fault (w .0)) (joined-none rest));
+            let here = walk-end (fieldAt (body fib start stop)) (fewer fs q) at (end-found (body fib start stop) at e) in (
+              so .fields fs q .0,
+              so .fields fs q .3,
+              λ rest. fields-judged fs q (whole []) here rest ∙ ap (judgeFrom fault (so .fields fs q .0)) (joined-none rest),
+            );
       }
 
   -- at a field that does not fit the fault is 4, whatever comes
@@ -171,14 +185,11 @@ module _ (fib : List ℕ) (start stop fault₀ : ℕ) (spots₀ : Spots) (fault 
         least = omega arith;
         most = omega arith;
         fields = λ fs q.
-            let w = so .fields fs q in
-            let m = spare (w .1) (w .2) in
-            let here = walk-wrong (fieldAt (body fib start stop)) (m .0) at (wrong-found (body fib start stop) at e) in
-            (w .0, w .3,
-            λ rest. w .4 rest
-              ∙ ap (λ (k : ℕ). judgeFrom fault (w .0) (joined (walk (fieldAt (body fib start stop)) k at) rest)) (m .1)
-              ∙ ap (λ (v : Walk FieldOf). judgeFrom fault (w .0) (joined v rest)) here
-              ∙ judge-broken fault (w .0) (w .0) at rest);
+            let here = walk-wrong (fieldAt (body fib start stop)) (fewer fs q) at (wrong-found (body fib start stop) at e) in (
+              so .fields fs q .0,
+              so .fields fs q .3,
+              λ rest. fields-judged fs q (broken at) here rest ∙ judge-broken fault (so .fields fs q .0) (so .fields fs q .0) at rest,
+            );
       }
 
 -- ---- the loop over the FIGs of a block
@@ -221,29 +232,29 @@ module _ (fib : List ℕ) (found : Pushed) (at : ℕ) (block : length fib ≡ 32
   less : ℕ
   less = fig-spare (so .left) (so .spare) .0
 
-  judged : (w : Walk FigOf) → walk (figAt fib) (suc less) at ≡ w → judgeFigs (figs fib) ≡ judgeFigsFrom (found .fault) (so .fields) w
+  figs-judged : (w : Walk FigOf) → walk (figAt fib) (suc less) at ≡ w → judgeFigs (figs fib) ≡ judgeFigsFrom (found .fault) (so .fields) w
   unfolding less
-  judged w e =
+  figs-judged w e =
       so .same
       ∙ ap (λ (k : ℕ). judgeFigsFrom (found .fault) (so .fields) (walk (figAt fib) k at)) (fig-spare (so .left) (so .spare) .1)
       ∙ ap (judgeFigsFrom (found .fault) (so .fields)) e
 
   -- at the end of the list
   pub figs-end : stepAt fib at ≡ FigEnd → (r : Judged) → Concludes found r → JudgesFigs fib r
-  unfolding figFound JudgesFigs
+  unfolding figFound JudgesFigs Concludes
   figs-end e r c =
       let here : figAt fib at ≡ end = sym (stepAt-means fib at block) ∙ ap (figFound fib) e in
-      subst (λ (v : Verdict). Answers fib v r)
-      (sym (judged (whole []) (walk-end (figAt fib) less at here) ∙ figs-none (found .fault) (so .fields) (so .most)))
-      (c .answers fib (so .fields) (so .least) (so .most) (so .placed))
+      subst (λ (v : Verdict). JudgedAs fib v r)
+      (sym (figs-judged (whole []) (walk-end (figAt fib) less at here) ∙ figs-none (found .fault) (so .fields) (so .most)))
+      (c fib (so .fields) (so .placed))
 
   -- at a FIG whose length is wrong
   pub figs-break : stepAt fib at ≡ FigWrong → (r : Judged) → r ≡ record { outcome = WrongFig; spots = noSpots } → JudgesFigs fib r
   unfolding figFound JudgesFigs
   figs-break e r a =
       let here : figAt fib at ≡ wrong = sym (stepAt-means fib at block) ∙ ap (figFound fib) e in
-      not WrongFig (judged (broken at) (walk-wrong (figAt fib) less at here) ∙ figs-wrong (found .fault) (so .fields) at)
-      (ap (λ (x : Judged). x .outcome) a) (ap (λ (x : Judged). x .spots .count) a ∙ no-count)
+      refuses-as fib (judgeFigs (figs fib)) WrongFig r
+      (figs-judged (broken at) (walk-wrong (figAt fib) less at here) ∙ figs-wrong (found .fault) (so .fields) at) a
 
   module _ (kind start stop : ℕ) (next : Cursor) (e : stepAt fib at ≡ Fig kind start stop next) where
     fig : FigOf
@@ -295,9 +306,9 @@ module _ (fib : List ℕ) (found : Pushed) (at : ℕ) (block : length fib ≡ 32
           placed = w .1;
           left = less;
           spare = still;
-          same = judged _ steps
+          same = figs-judged _ steps
               ∙ figs-linking (found .fault) (more .fault) (so .fields) (w .0) fig (walk (figAt fib) less (next .at)) l
-                (λ rest. ap (λ (v : Walk FieldOf). judgeFrom (found .fault) (so .fields) (joined v rest)) fields-same ∙ w .2 rest);
+              (λ rest. ap (λ (v : Walk FieldOf). judgeFrom (found .fault) (so .fields) (joined v rest)) fields-same ∙ w .2 rest);
         }
 
     -- after any other
@@ -313,5 +324,5 @@ module _ (fib : List ℕ) (found : Pushed) (at : ℕ) (block : length fib ≡ 32
           placed = so .placed;
           left = less;
           spare = still;
-          same = judged _ steps ∙ figs-other (found .fault) (so .fields) fig (walk (figAt fib) less (next .at)) l;
+          same = figs-judged _ steps ∙ figs-other (found .fault) (so .fields) fig (walk (figAt fib) less (next .at)) l;
         }

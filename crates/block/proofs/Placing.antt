@@ -1,24 +1,23 @@
--- Fields and their spots, in this order: no fields; a field more; what is found so far as the answer, by its fault.
-use Prim.Native.Nat.{ℕ, _+_, _*_, _-_, _≤_, _<_}
+-- Fields and their spots, in this order: no fields; a field more; an answer that refuses, and one that takes.
+use Prim.Native.Nat.{ℕ, _+_, _<_}
 use native.Mathlib.Omega.{arith}
 use mathlib.Core.Path.{_≡_, refl, sym, ap, _∙_, subst, subst₂}
-use mathlib.Core.Bool.{Bool, true, false, cond}
 use mathlib.Core.List.{List, [], _∷_, _++_, map}
-use lib.ListN.{length, getD, set, take, drop, length-append, length-map, List·getD-append}
-use lib.Seq.{getD-set-same, getD-set-other, getD-append-seam, getD-at}
-use lib.Dec.{ltb, eqb}
-use borrow.Author.Tests.{ltb-true, ltb-false, eq-eqb, ne-eqb}
+use lib.ListN.{length, getD, set, length-append, length-map, List·getD-append}
+use lib.Seq.{getD-set-same, getD-set-other, getD-at}
+use lib.Dec.{ltb}
+use borrow.Author.Tests.{ltb-true, ltb-false}
 use Rattle.rules.specs.declared.Outcome.{Outcome}
-use Rattle.rules.specs.declared.Outcome.the-variants.{Done, WrongField, WrongValue, EmptyStart}
+use Rattle.rules.specs.declared.Outcome.the-variants.{Done}
 use Rattle.rules.specs.Field.{Field as FieldOf}
-use Rattle.rules.specs.Outcomes.{taken, refused}
+use Rattle.rules.specs.Outcomes.{Verdict, taken, refused}
 use Rattle.rules.proofs.Basics.{cases-bool}
 use Rattle.block.specs.declared.Spot.{Spot}
 use Rattle.block.specs.declared.Spots.{Spots}
 use Rattle.block.specs.declared.Pushed.{Pushed}
 use Rattle.block.specs.declared.Judged.{Judged}
-use Rattle.block.specs.Judged.{SpotIs, noSpot, noSpots, noField, Placed}
-use Rattle.block.specs.Faults.{verdictOf, Answers, done, not, Concludes}
+use Rattle.block.specs.Judged.{SpotIs, noSpot, noSpots, noField, Placed, JudgedAs, isTaken, isRefused}
+use Rattle.block.specs.Faults.{verdictOf, Concludes}
 
 -- an array of structs stands in what a function knows under a `map`
 pub length-of-map : {A B : Type 0} (f : A → B) (xs : List A) (n : ℕ) → length (map f xs) ≡ n → length xs ≡ n
@@ -31,10 +30,6 @@ placed-none fib = record { count = refl; few = omega arith; each = λ i h. absur
 pub no-count : noSpots .count ≡ 0
 unfolding noSpots
 no-count = refl
-
-pub no-length : length (noSpots .spots) ≡ 14
-unfolding noSpots
-no-length = refl
 
 -- spots with one more behind the first count
 abbrev pub withSpot : Spots → Spot → Spots
@@ -69,29 +64,19 @@ module _ (fib : List ℕ) (spots : Spots) (fs : List FieldOf) (s : Spot) (g : Fi
 
 -- ---- the answer, by the fault
 
-refused-as : Outcome → Judged
-refused-as o = record { outcome = o; spots = noSpots }
+-- an answer that refuses, with no fields
+pub refuses-as : (fib : List ℕ) (v : Verdict) (o : Outcome) (r : Judged) → v ≡ refused o → r ≡ record { outcome = o; spots = noSpots }
+    → JudgedAs fib v r
+refuses-as fib v o r h e = isRefused o h (ap (λ (x : Judged). x .outcome) e) (ap (λ (x : Judged). x .spots .count) e ∙ no-count)
 
 module _ (found : Pushed) (r : Judged) where
-  pub concludes-field : found .fault ≡ 4 → r ≡ record { outcome = WrongField; spots = noSpots } → Concludes found r
-  unfolding verdictOf
-  concludes-field f e = record { answers = λ fib fs l m p. not WrongField (rw f) (ap (λ (x : Judged). x .outcome) e) (ap (λ (x : Judged). x .spots .count) e ∙ no-count) }
+  pub concludes-refused : (o : Outcome) → ((fs : List FieldOf) → verdictOf (found .fault) fs ≡ refused o)
+      → r ≡ record { outcome = o; spots = noSpots } → Concludes found r
+  unfolding Concludes
+  concludes-refused o h e = λ fib fs p. refuses-as fib (verdictOf (found .fault) fs) o r (h fs) e
 
-  pub concludes-value : found .fault ≡ 5 → r ≡ record { outcome = WrongValue; spots = noSpots } → Concludes found r
-  unfolding verdictOf
-  concludes-value f e = record { answers = λ fib fs l m p. not WrongValue (rw f) (ap (λ (x : Judged). x .outcome) e) (ap (λ (x : Judged). x .spots .count) e ∙ no-count) }
-
-  pub concludes-start : found .fault ≡ 6 → r ≡ record { outcome = EmptyStart; spots = noSpots } → Concludes found r
-  unfolding verdictOf
-  concludes-start f e = record { answers = λ fib fs l m p. not EmptyStart (rw f) (ap (λ (x : Judged). x .outcome) e) (ap (λ (x : Judged). x .spots .count) e ∙ no-count) }
-
-  pub concludes-done : (found .fault ≡ 4 → ⊥) → (found .fault ≡ 5 → ⊥) → (found .fault ≡ 6 → ⊥)
+  pub concludes-taken : ((fs : List FieldOf) → verdictOf (found .fault) fs ≡ taken fs)
       → r ≡ record { outcome = Done; spots = found .spots } → Concludes found r
-  unfolding verdictOf
-  concludes-done a b c e =
-      record {
-        answers = λ fib fs l m p.
-            done fs (rw (ne-eqb (found .fault) 4 a, ne-eqb (found .fault) 5 b, ne-eqb (found .fault) 6 c))
-            (ap (λ (x : Judged). x .outcome) e)
-            (subst (λ (x : Judged). Placed fib (x .spots) fs) (sym e) p);
-      }
+  unfolding Concludes
+  concludes-taken h e = λ fib fs p.
+      isTaken fs (h fs) (ap (λ (x : Judged). x .outcome) e) (subst (λ (x : Judged). Placed fib (x .spots) fs) (sym e) p)

@@ -1,6 +1,6 @@
 -- The verdict on a block from what has been found so far, in this order: walks of fields joined; a field more; a field that
 -- does not fit; nothing found yet; the FIGs of a block, one more at a time; a refused block is never done.
-use Prim.Native.Nat.{ℕ, _+_, _≤_, _<_, min}
+use Prim.Native.Nat.{ℕ, _≤_, min}
 use native.Mathlib.Omega.{arith}
 use mathlib.Core.Path.{_≡_, refl, sym, ap, ap₂, _∙_}
 use mathlib.Core.Bool.{Bool, true, false, cond, _||_}
@@ -8,10 +8,10 @@ use mathlib.Core.List.{List, [], _∷_, _++_, append-assoc, append-nil}
 use lib.ListN.{length}
 use lib.Dec.{eqb}
 use Rattle.rules.specs.declared.Outcome.{Outcome}
-use Rattle.rules.specs.declared.Outcome.the-variants.{Done, NotABlock, CheckFails, WrongFig, WrongField, WrongValue, EmptyStart}
-use Rattle.rules.specs.Block.{Walk, whole, broken, after, walk, Fig, figs, checkHolds}
+use Rattle.rules.specs.declared.Outcome.the-variants.{Done, CheckFails, WrongFig, WrongField, WrongValue, EmptyStart}
+use Rattle.rules.specs.Block.{Walk, whole, broken, after, Fig, figs, checkHolds}
 use Rattle.rules.specs.Field.{Field as FieldOf, isLinking, fieldsOf, wrongValue, emptyStart}
-use Rattle.rules.specs.Outcomes.{Verdict, taken, refused, noBlock, joined, allFields, some?, judgeFields, judgeFigs, verdict, numberOf}
+use Rattle.rules.specs.Outcomes.{Verdict, taken, refused, noBlock, joined, allFields, some?, judgeFields, judgeFigs, verdict}
 use Rattle.rules.proofs.Basics.{cond-both}
 use Rattle.block.specs.Faults.{faultOf, faultsOf, verdictOf, judgeFrom}
 
@@ -34,14 +34,11 @@ joined-broken p rest = refl
 
 -- ---- faults
 
-fault-range : (b c : Bool) → (4 ≤ cond b 5 (cond c 6 7)) × (cond b 5 (cond c 6 7) ≤ 7)
-fault-range true c = omega arith
-fault-range false true = omega arith
-fault-range false false = omega arith
-
 pub faultOf-range : (f : FieldOf) → (4 ≤ faultOf f) × (faultOf f ≤ 7)
 unfolding faultOf
-faultOf-range f = fault-range (wrongValue f) (emptyStart f)
+faultOf-range f =
+    cond-both (λ (n : ℕ). (4 ≤ n) × (n ≤ 7)) (wrongValue f) _ _ (omega arith)
+    (cond-both (λ (n : ℕ). (4 ≤ n) × (n ≤ 7)) (emptyStart f) _ _ (omega arith) (omega arith))
 
 faultsOf-range : (fs : List FieldOf) → (4 ≤ faultsOf fs) × (faultsOf fs ≤ 7)
 unfolding faultsOf

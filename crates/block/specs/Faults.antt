@@ -6,16 +6,15 @@ use mathlib.Core.Bool.{cond}
 use mathlib.Core.List.{List, [], _∷_, _++_}
 use lib.ListN.{length, take, drop}
 use lib.Dec.{eqb}
-use Rattle.rules.specs.declared.Outcome.{Outcome}
-use Rattle.rules.specs.declared.Outcome.the-variants.{Done, WrongFig, WrongField, WrongValue, EmptyStart}
-use Rattle.rules.specs.Block.{Walk, whole, broken, walk, Fig, figs}
+use Rattle.rules.specs.declared.Outcome.the-variants.{WrongField, WrongValue, EmptyStart}
+use Rattle.rules.specs.Block.{Walk, whole, broken, walk, figs}
 use Rattle.rules.specs.Field.{Field as FieldOf, fieldAt, wrongValue, emptyStart}
 use Rattle.rules.specs.Outcomes.{Verdict, taken, refused, joined, judgeFigs}
 use Rattle.field.specs.declared.Field.{Field}
 use Rattle.field.specs.FieldStep.{wrongIn, emptyIn}
 use Rattle.block.specs.declared.Pushed.{Pushed}
 use Rattle.block.specs.declared.Judged.{Judged}
-use Rattle.block.specs.Judged.{noSpots, Placed}
+use Rattle.block.specs.Judged.{Placed, JudgedAs}
 
 -- the fault of a field of the code: 5 a wrong value, 6 an empty start, 7 none
 unfoldable pub faultIn : Field → ℕ
@@ -68,17 +67,11 @@ pub record Pushes (fib : List ℕ) (start stop : ℕ) (before after : Pushed) : 
       × (Placed fib (after .spots) gs)
       × ((rest : Walk FieldOf) → judgeFrom (before .fault) fs (joined (fieldsIn fib start stop) rest) ≡ judgeFrom (after .fault) gs rest)
 
--- an answer is a verdict: done, and all the fields; or the outcome that refuses, and none
-pub data Answers (fib : List ℕ) (v : Verdict) (r : Judged) : Type 0 where
-  done : (fs : List FieldOf) → v ≡ taken fs → r .outcome ≡ Done → Placed fib (r .spots) fs → Answers fib v r
-  not : (o : Outcome) → v ≡ refused o → r .outcome ≡ o → r .spots .count ≡ 0 → Answers fib v r
+-- the answer at the end of the FIGs says the verdict by the fault, on the fields that were found
+unfoldable pub Concludes : Pushed → Judged → Type 0
+Concludes found r =
+    (fib : List ℕ) (fs : List FieldOf) → Placed fib (found .spots) fs → JudgedAs fib (verdictOf (found .fault) fs) r
 
--- the answer at the end of the FIGs, to what was found
-pub record Concludes (found : Pushed) (r : Judged) : Type 0 where
-  pub answers :
-      (fib : List ℕ) (fs : List FieldOf) → 4 ≤ found .fault → found .fault ≤ 7 → Placed fib (found .spots) fs
-      → Answers fib (verdictOf (found .fault) fs) r
-
--- the answer to the FIGs of a block
+-- the answer to the FIGs of a block says the verdict on them
 unfoldable pub JudgesFigs : List ℕ → Judged → Type 0
-JudgesFigs fib r = Answers fib (judgeFigs (figs fib)) r
+JudgesFigs fib r = JudgedAs fib (judgeFigs (figs fib)) r

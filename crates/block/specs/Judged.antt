@@ -1,14 +1,13 @@
 -- What judging a block answers: the fields of a taken block with the places of the block that they stand in, or the outcome
 -- that refuses it.
-use Prim.Native.Nat.{ℕ, _+_, _-_, _≤_, _<_}
+use Prim.Native.Nat.{ℕ, _-_, _≤_, _<_}
 use mathlib.Core.Path.{_≡_}
 use mathlib.Core.List.{List, []}
 use lib.ListN.{length, getD, take, drop, replicate}
 use Rattle.rules.specs.declared.Outcome.{Outcome}
 use Rattle.rules.specs.declared.Outcome.the-variants.{Done, NotABlock}
 use Rattle.rules.specs.Field.{Field as FieldOf}
-use Rattle.rules.specs.Outcomes.{taken, refused, noBlock, verdict}
-use Rattle.field.specs.declared.Field.{Field}
+use Rattle.rules.specs.Outcomes.{Verdict, taken, refused, noBlock, verdict}
 use Rattle.field.specs.declared.FieldStep.the-variants.{Found}
 use Rattle.field.specs.FieldStep.{fieldStepAt, meaning}
 use Rattle.block.specs.declared.Spot.{Spot}
@@ -32,10 +31,24 @@ abbrev pub noSpot : Spot
 noSpot =
     record {
       field =
-        record {
-          cn = 0; oe = 0; pd = 0; flag = 0; la = 0; hard = 0; ils = 0; lsn = 0; rfu = 0; qualifier = 0; shorthand = 0; count = 0;
-          from = 0 };
-      start = 0; end = 0 }
+          record {
+            cn = 0;
+            oe = 0;
+            pd = 0;
+            flag = 0;
+            la = 0;
+            hard = 0;
+            ils = 0;
+            lsn = 0;
+            rfu = 0;
+            qualifier = 0;
+            shorthand = 0;
+            count = 0;
+            from = 0;
+          };
+      start = 0;
+      end = 0;
+    }
 
 unfoldable pub noSpots : Spots
 noSpots = record { spots = replicate 14 noSpot; count = 0 }
@@ -44,7 +57,19 @@ noSpots = record { spots = replicate 14 noSpot; count = 0 }
 abbrev pub noField : FieldOf
 noField =
     record {
-      cn = 0; oe = 0; pd = 0; flag = 0; la = 0; hard = 0; ils = 0; lsn = 0; rfu = 0; qualifier = 0; shorthand = 0; numbers = [] }
+      cn = 0;
+      oe = 0;
+      pd = 0;
+      flag = 0;
+      la = 0;
+      hard = 0;
+      ils = 0;
+      lsn = 0;
+      rfu = 0;
+      qualifier = 0;
+      shorthand = 0;
+      numbers = [];
+    }
 
 -- spots say these fields, in order
 pub record Placed (fib : List ℕ) (spots : Spots) (fs : List FieldOf) : Type 0 where
@@ -52,8 +77,12 @@ pub record Placed (fib : List ℕ) (spots : Spots) (fs : List FieldOf) : Type 0 
   pub few : length fs ≤ 14
   pub each : (i : ℕ) → i < length fs → SpotIs fib (getD (spots .spots) i noSpot) (getD fs i noField)
 
--- an answer is the verdict of the rules: done, and all the fields; or the outcome that refuses, and none
-pub data Judges (fib : List ℕ) (r : Judged) : Type 0 where
-  isTaken : (fs : List FieldOf) → verdict fib ≡ taken fs → r .outcome ≡ Done → Placed fib (r .spots) fs → Judges fib r
-  isRefused : (o : Outcome) → verdict fib ≡ refused o → r .outcome ≡ o → r .spots .count ≡ 0 → Judges fib r
-  isNoBlock : verdict fib ≡ noBlock → r .outcome ≡ NotABlock → r .spots .count ≡ 0 → Judges fib r
+-- an answer says a verdict on a block: done, and all the fields; or the outcome that refuses, and none
+pub data JudgedAs (fib : List ℕ) (v : Verdict) (r : Judged) : Type 0 where
+  isTaken : (fs : List FieldOf) → v ≡ taken fs → r .outcome ≡ Done → Placed fib (r .spots) fs → JudgedAs fib v r
+  isRefused : (o : Outcome) → v ≡ refused o → r .outcome ≡ o → r .spots .count ≡ 0 → JudgedAs fib v r
+  isNoBlock : v ≡ noBlock → r .outcome ≡ NotABlock → r .spots .count ≡ 0 → JudgedAs fib v r
+
+-- it says the verdict of the rules
+abbrev pub Judges : List ℕ → Judged → Type 0
+Judges fib r = JudgedAs fib (verdict fib) r

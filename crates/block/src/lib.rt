@@ -2,13 +2,14 @@
 // that order, each over the whole block before the next. One pass over the block finds both: the order of 4, 5 and 6 is
 // kept by a fault that only falls, from 7, no fault, to the smallest that any field has.
 ghost use mathlib.Core.Path.{_≡_};
-ghost use Prim.Native.Nat.{_+_, _*_, _≤_, _<_, min};
+ghost use Prim.Native.Nat.{min};
 ghost use lib.ListN.{length};
 ghost use Rattle.block.specs.Judged.{noSpots, Judges};
 ghost use Rattle.block.specs.Faults.{faultIn, JudgesFigs, Concludes, CanPush, Pushes};
-
-use field::{Field, FieldStep};
-use figs::{Cursor, FigStep};
+use field::Field;
+use field::FieldStep;
+use figs::Cursor;
+use figs::FigStep;
 use rules::Outcome;
 
 // A field of a taken block, and the FIG body that it stands in: fib[start..end].
@@ -32,9 +33,9 @@ pub struct Judged {
 
 // What has been found in the FIGs so far: the smallest fault of a field (4 it does not fit, 5 a wrong value, 6 an empty
 // start, 7 none), and the fields.
-pub struct Pushed {
-    pub fault: u8,
-    pub spots: Spots,
+struct Pushed {
+    fault: u8,
+    spots: Spots,
 }
 
 // No fields.
@@ -57,7 +58,11 @@ pub fn no_spots() -> Spots
         from: 0,
     };
     Spots {
-        spots: [Spot { field, start: 0, end: 0 }; 14],
+        spots: [Spot {
+            field,
+            start: 0,
+            end: 0,
+        }; 14],
         count: 0,
     }
 }
@@ -66,7 +71,10 @@ pub fn no_spots() -> Spots
 fn refuse(outcome: Outcome) -> Judged
     ensures { λ r. ⌜ r ≡ record { outcome = outcome; spots = noSpots } ⌝ }
 {
-    Judged { outcome, spots: no_spots() }
+    Judged {
+        outcome,
+        spots: no_spots(),
+    }
 }
 
 // The fault of a field: 5 a wrong value, 6 an empty start, 7 none.
@@ -106,7 +114,11 @@ fn push_fields(fib: &[u8], start: usize, end: usize, before: Pushed) -> Pushed
             FieldStep::Found(f, next) => {
                 fault = smaller(fault, fault_in(f));
                 let n = spots.count;
-                spots.spots[n] = Spot { field: f, start, end };
+                spots.spots[n] = Spot {
+                    field: f,
+                    start,
+                    end,
+                };
                 spots.count = n + 1;
                 at = next;
             }
@@ -129,7 +141,10 @@ fn conclude(found: Pushed) -> Judged
         return refuse(Outcome::EmptyStart);
     }
     let spots = found.spots;
-    Judged { outcome: Outcome::Done, spots }
+    Judged {
+        outcome: Outcome::Done,
+        spots,
+    }
 }
 
 // What the FIGs of a block and the fields in them come to: 3, then 4, 5 and 6.
@@ -138,13 +153,21 @@ fn judge_figs(fib: &[u8]) -> Judged
     ensures { λ r. ⌜ JudgesFigs (now (fib .entry)) r ⌝ }
 {
     let mut cursor = Cursor::first();
-    let mut found = Pushed { fault: 7, spots: no_spots() };
+    let mut found = Pushed {
+        fault: 7,
+        spots: no_spots(),
+    };
     loop {
         let step = cursor.step(fib);
         match step {
             FigStep::End => return conclude(found),
             FigStep::Wrong => return refuse(Outcome::WrongFig),
-            FigStep::Fig { kind, start, end, next } => {
+            FigStep::Fig {
+                kind,
+                start,
+                end,
+                next,
+            } => {
                 if field::is_linking(kind, &fib[start..end]) {
                     found = push_fields(fib, start, end, found);
                 }

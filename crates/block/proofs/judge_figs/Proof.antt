@@ -1,9 +1,9 @@
 -- `block::judge_figs` meets its contract. The loop's invariant: the verdict on the block's FIGs is that from here on. The
 -- measure is what is left of the block's data.
 -- Assumes nothing.
-use Prim.Native.Nat.{_-_}
+use Prim.Native.Nat.{_-_, _≤_, _<_}
 use native.Mathlib.Omega.{arith}
-use mathlib.Core.Path.{_≡_, refl, sym, _∙_}
+use mathlib.Core.Path.{refl, sym, _∙_}
 use borrow.Author.Needs.{needs}
 use Rattle.block.proofs.Loops.{FigsSoFar, figs-begin, figs-end, figs-break, fig-inside, fig-goes-on, can-push, figs-next, figs-skip}
 use Rattle.block.proofs.judge_figs.Statement.{statement}
@@ -56,29 +56,24 @@ returns-2 c =
 enum-known-step : tie.Need-enum-known-step Inv-loop μ-loop
 enum-known-step c = search needs
 
-sub-is-linking : tie.Need-sub-is-linking Inv-loop μ-loop
-sub-is-linking c =
-    let s = c .before in
-    let l = s .before .before .before in
+-- where the body of the FIG lies
+inside : (c : tie.After-step2 Inv-loop μ-loop)
+    → (c .step2 .given .0 .1 .0 < c .step2 .given .0 .1 .1 .0) × (c .step2 .given .0 .1 .1 .0 ≤ 30)
+inside c =
+    let l = c .before .before .before in
     let b = l .before .before .before .before in
-    let i = fig-inside _ _ _ (b .pre) (l .loop .inv) _ _ _ _ (sym (s .before .before .step .ensures) ∙ s .step2 .given .1) in
-    omega (arith, i)
+    fig-inside _ _ _ (b .pre) (l .loop .inv) _ _ _ _ (sym (c .before .before .step .ensures) ∙ c .step2 .given .1)
+
+sub-is-linking : tie.Need-sub-is-linking Inv-loop μ-loop
+sub-is-linking c = omega (arith, inside (c .before))
 
 part-is-linking-start : tie.Need-part-is-linking-start Inv-loop μ-loop
-part-is-linking-start c =
-    let s = c .before in
-    let l = s .before .before .before in
-    let b = l .before .before .before .before in
-    let i = fig-inside _ _ _ (b .pre) (l .loop .inv) _ _ _ _ (sym (s .before .before .step .ensures) ∙ s .step2 .given .1) in
-    omega (arith, i)
+part-is-linking-start c = omega (arith, inside (c .before))
 
 part-is-linking-end : tie.Need-part-is-linking-end Inv-loop μ-loop
 part-is-linking-end c =
-    let s = c .before in
-    let l = s .before .before .before in
-    let b = l .before .before .before .before in
-    let i = fig-inside _ _ _ (b .pre) (l .loop .inv) _ _ _ _ (sym (s .before .before .step .ensures) ∙ s .step2 .given .1) in
-    omega (arith, i, b .pre)
+    let b = c .before .before .before .before .before .before .before .before in
+    omega (arith, inside (c .before), b .pre)
 
 is-linking-requires : tie.Need-is-linking-requires Inv-loop μ-loop
 is-linking-requires c κs = search needs

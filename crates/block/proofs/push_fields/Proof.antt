@@ -2,14 +2,11 @@
 -- comes after the body. The measure is what is left of the body.
 -- Assumes nothing.
 use Prim.Native.Nat.{ℕ, _-_, min}
-use native.Mathlib.Omega.{arith}
 use mathlib.Core.Path.{_≡_, sym, ap, _∙_, subst}
 use lib.ListN.{length}
 use borrow.Author.Needs.{needs}
-use Rattle.field.specs.declared.FieldStep.the-variants.{Found}
-use Rattle.field.specs.FieldStep.{fieldStepAt}
 use Rattle.block.proofs.Placing.{length-of-map, withSpot}
-use Rattle.block.proofs.Loops.{body, FieldsSoFar, fields-first, fields-next, fields-end, fields-wrong, field-room, field-goes-on}
+use Rattle.block.proofs.Loops.{FieldsSoFar, fields-first, fields-next, fields-end, fields-wrong, field-room, field-goes-on}
 use Rattle.block.proofs.push_fields.Statement.{statement}
 use Rattle.block.proofs.push_fields.Tie as tie
 
