@@ -1,7 +1,7 @@
-// The listing's text (document 01, example 16), over lent bytes: the first line, the line of a set and
-// the tail. Every function is proved and none that is `pub` has a `requires`. For each line there are
-// its size, a writer at a place of a buffer, and a function that refuses a buffer that is too short
-// and else writes the line at its front.
+// The listing's text (document 01, example 16), over lent bytes: the first line, the line of a set,
+// the tail, and the whole listing of a table. Every function is proved and none that is `pub` has a
+// `requires`. For each line there are its size, a writer at a place of a buffer, and a function that
+// refuses a buffer that is too short and else writes the line at its front; the whole goes likewise.
 use lists::IdList;
 use lists::least;
 use lists::width_of;
@@ -13,6 +13,7 @@ use out::put_bytes;
 use out::put_decimal;
 use out::put_hex;
 use rules::Outcome;
+use table::Table;
 ghost use mathlib.Core.Path.{_≡_};
 ghost use mathlib.Core.Bool.{not, _&&_};
 ghost use mathlib.Core.List.{[], _∷_, _++_};
@@ -21,11 +22,13 @@ ghost use lib.ListN.{length};
 ghost use Rattle.rules.specs.Field.{pair};
 ghost use Rattle.rules.specs.Collecting.{keyWidth};
 ghost use Rattle.rules.specs.Air.{hasKind, writtenTo};
-ghost use Rattle.rules.specs.Listing.{hexText, decimal, kindLetter, pairText, pairsText, deadText, stateText, idsText, lineOf, tailText};
+ghost use Rattle.rules.specs.Listing.{hexText, decimal, kindLetter, pairText, pairsText, deadText, stateText, idsText, lineOf, linesOf, tailText, listing};
 ghost use Rattle.lists.specs.Stored.{pairsIn};
 ghost use Rattle.out.specs.Put.{Puts};
 ghost use Rattle.out.specs.Answer.{writtenAs};
+ghost use Rattle.table.specs.Stored.{Given};
 ghost use Rattle.text.specs.Lines.{shownAs, setsText};
+ghost use Rattle.text.specs.Sets.{setsIn};
 
 // ---- the parts of a set's line
 
@@ -177,7 +180,7 @@ pub fn put_head(out: &mut [u8], at: usize, key: u32, on: bool, n: usize) -> usiz
 
 // The size of the line of a set.
 pub fn line_size(key: u32, on: bool, list: IdList) -> usize
-    ensures { λ r. ⌜ r ≡ length (lineOf (shownAs key on list)) ⌝ }
+    ensures { λ r. ⌜ (r ≡ length (lineOf (shownAs key on list))) × (r ≤ 1320) ⌝ }
 {
     let len = list.len;
     let rds = list.named % 2 == 1;
@@ -231,7 +234,7 @@ pub fn put_number_line<'a>(out: &mut [u8], at: usize, word: &'a [u8], n: usize) 
 
 // The size of the first line.
 pub fn first_size(count: usize) -> usize
-    ensures { λ r. ⌜ r ≡ length (setsText count) ⌝ }
+    ensures { λ r. ⌜ (r ≡ length (setsText count)) × (r ≤ 26) ⌝ }
 {
     6 + decimal_size(count)
 }
@@ -262,7 +265,7 @@ pub fn first_line(count: usize, out: &mut [u8]) -> Written
 
 // The size of the tail: 0 where no byte is left over.
 pub fn tail_size(over: usize) -> usize
-    ensures { λ r. ⌜ r ≡ length (tailText over) ⌝ }
+    ensures { λ r. ⌜ (r ≡ length (tailText over)) × (r ≤ 26) ⌝ }
 {
     if over == 0 { 0 } else { 6 + decimal_size(over) }
 }
@@ -289,6 +292,89 @@ pub fn tail_line(over: usize, out: &mut [u8]) -> Written
         };
     }
     let end = put_tail(out, 0, over);
+    Written {
+        outcome: Outcome::Done,
+        size: end,
+    }
+}
+
+// ---- the whole listing
+
+// How many sets a table shows.
+fn shown_count(table: Table) -> usize
+    requires { ⌜ table .count ≤ 32 ⌝ }
+    ensures { λ r. ⌜ r ≡ length (setsIn table) ⌝ }
+{
+    let mut n = 0;
+    let mut i = 0;
+    while i < table.count {
+        let list = table.shown[i];
+        if list.len != 0 {
+            n += 1;
+        }
+        i += 1;
+    }
+    n
+}
+
+// The size of the lines of its sets.
+fn lines_size(table: Table) -> usize
+    requires { ⌜ table .count ≤ 32 ⌝ }
+    ensures { λ r. ⌜ (r ≡ length (linesOf (setsIn table))) × (r ≤ 42240) ⌝ }
+{
+    let mut size = 0;
+    let mut i = 0;
+    while i < table.count {
+        let list = table.shown[i];
+        if list.len != 0 {
+            size += line_size(table.keys[i], table.on[i], list);
+        }
+        i += 1;
+    }
+    size
+}
+
+// The lines of its sets at a place.
+fn put_lines(out: &mut [u8], at: usize, table: Table) -> usize
+    requires { ⌜ table .count ≤ 32 ⌝ }
+    ensures { λ r. ⌜ Puts (now (out .entry)) at (linesOf (setsIn table)) (now (out .exit)) r ⌝ }
+{
+    let mut p = cut_to(at, out.len());
+    let mut i = 0;
+    while i < table.count {
+        let list = table.shown[i];
+        if list.len != 0 {
+            p = put_line(out, p, table.keys[i], table.on[i], list);
+        }
+        i += 1;
+    }
+    p
+}
+
+// The listing of a table, with this many bytes left over, at the front of a buffer: 9, then 8, each
+// with the buffer as it was.
+pub fn write_listing(table: Table, over: usize, out: &mut [u8]) -> Written
+    ensures { λ r. ⌜ Given table
+        (λ c. writtenAs r (now (out .exit)) ≡ writtenTo (listing c over) (now (out .entry)))
+        (writtenAs r (now (out .exit)) ≡ record { outcome = Outcome.WrongTable; size = 0; buffer = now (out .entry) }) ⌝ }
+{
+    if !table.meets() {
+        return Written {
+            outcome: Outcome::WrongTable,
+            size: 0,
+        };
+    }
+    let sets = shown_count(table);
+    let size = first_size(sets) + lines_size(table) + tail_size(over);
+    if out.len() < size {
+        return Written {
+            outcome: Outcome::ShortBuffer,
+            size: 0,
+        };
+    }
+    let p = put_first(out, 0, sets);
+    let q = put_lines(out, p, table);
+    let end = put_tail(out, q, over);
     Written {
         outcome: Outcome::Done,
         size: end,

@@ -9,7 +9,7 @@ first-size-requires : tie.Need-first-size-requires
 first-size-requires c κs = tt
 
 returns : tie.Need-returns
-returns c = written-short _ _ (omega (arith, c .before .first-size .ensures))
+returns c = written-short _ _ (omega (arith, c .before .first-size .ensures .0))
 
 put-first-requires : tie.Need-put-first-requires
 put-first-requires c κs = tt
@@ -18,7 +18,7 @@ same-length : tie.Need-same-length
 same-length c = search needs
 
 returns-2 : tie.Need-returns-2
-returns-2 c = written-done (omega (arith, c .before .before .before .before .before .first-size .ensures)) (c .before .before .put-first .ensures)
+returns-2 c = written-done (omega (arith, c .before .before .before .before .before .first-size .ensures .0)) (c .before .before .put-first .ensures)
 
 pub first-line-spec : {M : Type 1} → statement M
 first-line-spec =

@@ -14,7 +14,7 @@ add-result c = search needs
 
 returns : tie.Need-returns
 unfolding setsText
-returns c = simp length-append (omega (arith, c .decimal-size .ensures .0))
+returns c = (simp length-append (omega (arith, c .decimal-size .ensures .0)), omega (arith, c .decimal-size .ensures .1))
 
 pub first-size-spec : {M : Type 1} → statement M
 first-size-spec = tie.close (tie.spec decimal-size-requires add-result returns)

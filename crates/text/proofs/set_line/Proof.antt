@@ -9,7 +9,7 @@ line-size-requires : tie.Need-line-size-requires
 line-size-requires c κs = tt
 
 returns : tie.Need-returns
-returns c = written-short _ _ (omega (arith, c .before .line-size .ensures))
+returns c = written-short _ _ (omega (arith, c .before .line-size .ensures .0))
 
 put-line-requires : tie.Need-put-line-requires
 put-line-requires c κs = tt
@@ -18,7 +18,7 @@ same-length : tie.Need-same-length
 same-length c = search needs
 
 returns-2 : tie.Need-returns-2
-returns-2 c = written-done (omega (arith, c .before .before .before .before .before .line-size .ensures)) (c .before .before .put-line .ensures)
+returns-2 c = written-done (omega (arith, c .before .before .before .before .before .line-size .ensures .0)) (c .before .before .put-line .ensures)
 
 pub set-line-spec : {M : Type 1} → statement M
 set-line-spec =

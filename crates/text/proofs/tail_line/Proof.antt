@@ -9,7 +9,7 @@ tail-size-requires : tie.Need-tail-size-requires
 tail-size-requires c κs = tt
 
 returns : tie.Need-returns
-returns c = written-short _ _ (omega (arith, c .before .tail-size .ensures))
+returns c = written-short _ _ (omega (arith, c .before .tail-size .ensures .0))
 
 put-tail-requires : tie.Need-put-tail-requires
 put-tail-requires c κs = tt
@@ -18,7 +18,7 @@ same-length : tie.Need-same-length
 same-length c = search needs
 
 returns-2 : tie.Need-returns-2
-returns-2 c = written-done (omega (arith, c .before .before .before .before .before .tail-size .ensures)) (c .before .before .put-tail .ensures)
+returns-2 c = written-done (omega (arith, c .before .before .before .before .before .tail-size .ensures .0)) (c .before .before .put-tail .ensures)
 
 pub tail-line-spec : {M : Type 1} → statement M
 tail-line-spec =

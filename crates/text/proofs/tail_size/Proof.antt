@@ -15,11 +15,12 @@ add-result c = search needs
 
 returns : tie.Need-returns
 unfolding tailText
-returns c = rw (eq-eqb _ _ (c .if1 .taken))
+returns c = (rw (eq-eqb _ _ (c .if1 .taken)), omega arith)
 
 returns-2 : tie.Need-returns-2
 unfolding tailText
-returns-2 c = simp (ne-eqb _ _ (c .before .if1 .left), length-append) (omega (arith, c .decimal-size .ensures .0))
+returns-2 c =
+    (simp (ne-eqb _ _ (c .before .if1 .left), length-append) (omega (arith, c .decimal-size .ensures .0)), omega (arith, c .decimal-size .ensures .1))
 
 pub tail-size-spec : {M : Type 1} → statement M
 tail-size-spec = tie.close (tie.spec decimal-size-requires add-result returns returns-2)

@@ -1,0 +1,180 @@
+-- The set that stands in a list's arrays. In order: its kinds and numbers; the pieces from a place on, by ranges of the arrays;
+-- what a range of a list that meets the rules fits; the search for a kind; how many pieces there are; dead links.
+use Prim.Native.Nat.{ℕ, zero, suc, _+_, _/_, _%_, _≤_, _<_}
+use native.Mathlib.Numerals.{add-one}
+use native.Mathlib.Omega.{arith}
+use mathlib.Core.Path.{_≡_, refl, sym, ap, _∙_, subst}
+use mathlib.Core.Bool.{Bool, true, false, not, _&&_}
+use mathlib.Core.List.{List, [], _∷_, _++_, map}
+use lib.ListN.{length, getD, take, drop, length-take, length-append}
+use lib.Seq.{slice, slice-empty, take-take}
+use lib.Dec.{eqb}
+use borrow.Author.Tests.{eq-eqb, ne-eqb}
+use Rattle.rules.specs.Block.{bit}
+use Rattle.rules.specs.Field.{Pair, pair, rds, drm}
+use Rattle.rules.specs.Collecting.{IdSet, keyWidth}
+use Rattle.rules.specs.Outcomes.{numberIn, kindIn}
+use Rattle.rules.specs.Air.{cut, hasKind, deadLink, pieces, pieceMost}
+use Rattle.rules.proofs.Basics.{cases-bool}
+use Rattle.rules.proofs.AirPieces.{most-room}
+use Rattle.lists.specs.declared.IdList.{IdList}
+use Rattle.lists.specs.Stored.{paired, pairsIn, Holds}
+use Rattle.lists.proofs.Pairs.{drop-pairs, drop-pairs-end, length-pairs-in}
+use Rattle.lists.proofs.StoredLaws.{Facts, holds-facts}
+use Rattle.air.specs.declared.Part.{Part}
+use Rattle.air.specs.Parts.{setIn, partAt, pieceIn, Fitting}
+use Rattle.air.proofs.Ranges.{left, left-next, left-end, range-ahead, range-inside, range-few, range-kind, kinds-small}
+
+kinds-of : (ks ns : List ℕ) (len : ℕ) → length ks ≡ length ns → map kindIn (pairsIn ks ns len) ≡ take len ks
+unfolding pairsIn paired kindIn pair
+kinds-of ks ns zero e = refl
+kinds-of [] ns (suc len) e = refl
+kinds-of (k ∷ ks) [] (suc len) e = absurd (omega arith)
+kinds-of (k ∷ ks) (n ∷ ns) (suc len) e = ap (λ (r : List ℕ). k ∷ r) (kinds-of ks ns len (omega arith))
+
+numbers-of : (ks ns : List ℕ) (len : ℕ) → length ks ≡ length ns → map numberIn (pairsIn ks ns len) ≡ take len ns
+unfolding pairsIn paired numberIn pair
+numbers-of ks ns zero e = refl
+numbers-of [] [] (suc len) e = refl
+numbers-of [] (n ∷ ns) (suc len) e = absurd (omega arith)
+numbers-of (k ∷ ks) [] (suc len) e = absurd (omega arith)
+numbers-of (k ∷ ks) (n ∷ ns) (suc len) e = ap (λ (r : List ℕ). n ∷ r) (numbers-of ks ns len (omega arith))
+
+-- a range of a list's arrays is the next piece
+pub record Turn (most : ℕ) (l : IdList) (from : ℕ) (p : Part) : Type 0 where
+  pub ahead : from < p .to
+  pub inside : p .to ≤ l .len
+  pub next : left most (setIn l .items) from ≡ pieceIn (l .numbers) p ∷ left most (setIn l .items) (p .to)
+
+-- a list with arrays of the right length
+module _ (l : IdList) (numbers-long : length (l .numbers) ≡ 128) (kinds-long : length (l .kinds) ≡ 128) (short : l .len ≤ 128) where
+  set-length : length (setIn l .items) ≡ l .len
+  unfolding setIn
+  set-length = length-pairs-in (l .kinds) (l .numbers) (l .len) ∙ omega arith
+
+  set-kinds : map kindIn (setIn l .items) ≡ take (l .len) (l .kinds)
+  unfolding setIn
+  set-kinds = kinds-of (l .kinds) (l .numbers) (l .len) (kinds-long ∙ sym numbers-long)
+
+  set-numbers : map numberIn (setIn l .items) ≡ take (l .len) (l .numbers)
+  unfolding setIn
+  set-numbers = numbers-of (l .kinds) (l .numbers) (l .len) (kinds-long ∙ sym numbers-long)
+
+  kinds-length : length (take (l .len) (l .kinds)) ≡ l .len
+  kinds-length = length-take (l .len) (l .kinds) ∙ omega arith
+
+  -- ---- the pieces from a place on
+
+  -- there are none from the end on
+  pub left-none : (most from : ℕ) → from ≤ l .len → l .len ≤ from → left most (setIn l .items) from ≡ []
+  left-none most from h g =
+      let e : from ≡ length (setIn l .items) = omega (arith, set-length) in
+      ap (left most (setIn l .items)) e ∙ left-end most (setIn l .items)
+
+  module _ (key from : ℕ) (p : Part) (h : from < l .len) (e : p ≡ partAt (pieceMost (keyWidth key)) (take (l .len) (l .kinds)) from) where
+    room : 1 < pieceMost (keyWidth key)
+    room = omega (arith, most-room (keyWidth key))
+
+    within : from < length (take (l .len) (l .kinds))
+    within = rw kinds-length h
+
+    part-ahead : from < p .to
+    part-ahead = rw e (range-ahead (pieceMost (keyWidth key)) (take (l .len) (l .kinds)) from (omega (arith, room)) within)
+
+    part-inside : p .to ≤ l .len
+    part-inside =
+        omega
+        (arith, kinds-length, ap (λ (x : Part). x .to) e, range-inside (pieceMost (keyWidth key)) (take (l .len) (l .kinds)) from (omega (arith, room)) within)
+
+    part-next : left (pieceMost (keyWidth key)) (setIn l .items) from
+        ≡ pieceIn (l .numbers) p ∷ left (pieceMost (keyWidth key)) (setIn l .items) (p .to)
+    unfolding pieceIn
+    part-next =
+        let most : ℕ = pieceMost (keyWidth key) in
+        let items : List Pair = setIn l .items in
+        let same : partAt most (map kindIn items) from ≡ p = ap (λ (ks : List ℕ). partAt most ks from) set-kinds ∙ sym e in
+        let ns : slice (p .from) (p .to) (map numberIn items) ≡ slice (p .from) (p .to) (l .numbers) =
+        ap (slice (p .from) (p .to)) set-numbers ∙ ap (drop (p .from)) (take-take (p .to) (l .len) (l .numbers) part-inside) in
+        left-next most items from room (rw set-length h)
+        ∙ ap (λ (x : Part). pieceIn (map numberIn items) x ∷ left most items (x .to)) same
+        ∙ λ i. record { more = not (eqb (p .from) 0); qualifier = p .qualifier; numbers = ns i } ∷ left most items (p .to)
+
+    -- the range there is the next piece
+    pub part-turn : Turn (pieceMost (keyWidth key)) l from p
+    part-turn = record { ahead = part-ahead; inside = part-inside; next = part-next }
+
+-- ---- a list that holds what it should for its key
+
+pub part-fits : (key : ℕ) (l : IdList) → length (l .numbers) ≡ 128 → length (l .kinds) ≡ 128 → Holds key l
+    → (from : ℕ) (p : Part) → from < l .len → p ≡ partAt (pieceMost (keyWidth key)) (take (l .len) (l .kinds)) from → Fitting key 128 p
+unfolding partAt setIn
+part-fits key l nl kl holds from p h e =
+    let f : Facts key l = holds-facts key l holds in
+    let m : ℕ = pieceMost (keyWidth key) in
+    let room : 5 < m = most-room (keyWidth key) in
+    let ks : List ℕ = take (l .len) (l .kinds) in
+    let small : (i : ℕ) → getD ks i 0 < 4 =
+    subst (λ (xs : List ℕ). (i : ℕ) → getD xs i 0 < 4) (set-kinds l nl kl (f .short))
+    (kinds-small (keyWidth key) (l .named) (setIn l .items) (f .pairs (λ z. omega arith))) in
+    let long : length ks ≡ l .len = kinds-length l nl kl (f .short) in
+    let in' : from < length ks = omega arith in
+    subst (Fitting key 128) (sym e)
+    (record {
+      ahead = omega (arith, range-ahead m ks from (omega arith) in');
+      inside = omega (arith, range-inside m ks from (omega arith) in', f .short);
+      few = range-few m ks from (omega arith) in';
+      kind = range-kind m ks from small;
+    })
+
+-- ---- the search for a kind
+
+-- the identifiers from a place on answer for all of them
+abbrev pub Seeking : IdList → ℕ → ℕ → Type 0
+Seeking l k j = hasKind k (drop j (setIn l .items)) ≡ hasKind k (setIn l .items)
+
+module _ (l : IdList) (numbers-long : length (l .numbers) ≡ 128) (kinds-long : length (l .kinds) ≡ 128) (short : l .len ≤ 128) (k i : ℕ) where
+  pub kind-found : i < l .len → getD (l .kinds) i 0 ≡ k → Seeking l k i → hasKind k (setIn l .items) ≡ true
+  unfolding setIn hasKind pair
+  kind-found h e s = sym s ∙ ap (hasKind k) (drop-pairs (l .kinds) (l .numbers) (l .len) i (omega arith)) ∙ rw (eq-eqb (getD (l .kinds) i 0) k e)
+
+  pub kind-next : i < l .len → (getD (l .kinds) i 0 ≡ k → ⊥) → Seeking l k i → Seeking l k (i + 1)
+  unfolding setIn hasKind pair
+  kind-next h n s =
+      rw (add-one i) (sym (ap (hasKind k) (drop-pairs (l .kinds) (l .numbers) (l .len) i (omega arith)) ∙ rw (ne-eqb (getD (l .kinds) i 0) k n)) ∙ s)
+
+  pub kind-absent : l .len ≤ i → Seeking l k i → hasKind k (setIn l .items) ≡ false
+  unfolding setIn hasKind
+  kind-absent h s = sym s ∙ ap (hasKind k) (drop-pairs-end (l .kinds) (l .numbers) (l .len) i (omega arith))
+
+-- ---- how many pieces
+
+dead-length : (k : ℕ) (named : Bool) (ps : List Pair) → length (deadLink k named ps) ≡ bit (named && not (hasKind k ps))
+unfolding deadLink bit
+dead-length k named ps = cases-bool (named && not (hasKind k ps)) (λ e. rw e) (λ e. rw e)
+
+pub pieces-length : (most : ℕ) (l : IdSet) → length (pieces most l)
+    ≡ length (cut most (l .items)) + bit (eqb (l .named % 2) 1 && not (hasKind rds (l .items))) + bit (eqb (l .named / 2) 1 && not (hasKind drm (l .items)))
+unfolding pieces
+pieces-length most l =
+    rw (
+      length-append (cut most (l .items) ++ deadLink rds (eqb (l .named % 2) 1) (l .items)) (deadLink drm (eqb (l .named / 2) 1) (l .items)),
+      length-append (cut most (l .items)) (deadLink rds (eqb (l .named % 2) 1) (l .items)),
+      dead-length rds (eqb (l .named % 2) 1) (l .items),
+      dead-length drm (eqb (l .named / 2) 1) (l .items),
+    )
+
+-- ---- dead links
+
+-- an empty range past the first place is a continuation with count 0
+pub dead-piece : (ns : List ℕ) (k : ℕ) → pieceIn ns (record { from = 1; to = 1; qualifier = k }) ≡ record { more = true; qualifier = k; numbers = [] }
+unfolding pieceIn
+dead-piece ns k = λ i. record { more = true; qualifier = k; numbers = slice-empty 1 ns i }
+
+pub dead-there : (k : ℕ) (named : Bool) (ps : List Pair) → (named && not (hasKind k ps)) ≡ true
+    → deadLink k named ps ≡ record { more = true; qualifier = k; numbers = [] } ∷ []
+unfolding deadLink
+dead-there k named ps e = rw e
+
+pub dead-none : (k : ℕ) (named : Bool) (ps : List Pair) → (named && not (hasKind k ps)) ≡ false → deadLink k named ps ≡ []
+unfolding deadLink
+dead-none k named ps e = rw e

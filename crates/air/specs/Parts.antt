@@ -1,0 +1,63 @@
+-- How the writer for air goes through a table: the pieces of a set as ranges of its identifiers, and the sets that stand in a
+-- table's arrays. That these are the pieces and the sets of the rules is proved in proofs/.
+use Prim.Native.Nat.{ℕ, zero, suc, _+_, _≤_, _<_}
+use mathlib.Core.Bool.{Bool, false, not, cond}
+use mathlib.Core.List.{List, [], _∷_}
+use lib.ListN.{getD}
+use lib.Seq.{slice}
+use lib.Dec.{eqb}
+use Rattle.rules.specs.Collecting.{IdSet, Shown, keyWidth}
+use Rattle.rules.specs.Air.{Piece, pieceMost}
+use Rattle.lists.specs.declared.IdList.{IdList}
+use Rattle.lists.specs.Stored.{pairsIn}
+use Rattle.table.specs.Stored.{past}
+use Rattle.air.specs.declared.Part.{Part}
+
+-- ---- a set
+
+-- the set whose identifiers stand in a list's arrays; where the list is none, it has no identifier and no name
+unfoldable pub setIn : IdList → IdSet
+setIn l = record { items = pairsIn (l .kinds) (l .numbers) (l .len); named = l .named }
+
+-- how many at the front are of a kind
+unfoldable pub run : ℕ → List ℕ → ℕ
+run k [] = 0
+run k (x ∷ xs) = cond (eqb x k) (suc (run k xs)) 0
+
+-- the qualifier of the piece that begins at a place, by the kinds of the set: the kind there, but of the start the second's,
+-- or 0 if there is one identifier
+unfoldable pub qualifierAt : List ℕ → ℕ → ℕ
+qualifierAt ks zero = getD ks 1 0
+qualifierAt ks (suc from) = getD ks (suc from) 0
+
+-- the piece that begins at a place: the identifier there, and the run of the qualifier's kind that follows, as far as there is
+-- room
+unfoldable pub partAt : ℕ → List ℕ → ℕ → Part
+partAt most ks from =
+    record {
+      from = from;
+      to = from + 1 + run (qualifierAt ks from) (slice (from + 1) (from + most) ks);
+      qualifier = qualifierAt ks from;
+    }
+
+-- the piece that a range stands for: a start if it begins at place 0
+unfoldable pub pieceIn : List ℕ → Part → Piece
+pieceIn numbers p = record { more = not (eqb (p .from) 0); qualifier = p .qualifier; numbers = slice (p .from) (p .to) numbers }
+
+-- a range of n identifiers of a key that a block has room for
+pub record Fitting (key n : ℕ) (p : Part) : Type 0 where
+  pub ahead : p .from ≤ p .to
+  pub inside : p .to ≤ n
+  pub few : p .to ≤ p .from + pieceMost (keyWidth key)
+  pub kind : p .qualifier < 4
+
+-- ---- a table
+
+-- a list of a key, on or off, as a shown set
+unfoldable pub shownBy : ℕ → Bool → IdList → Shown
+shownBy key on l = record { key = key; on = on; set = setIn l }
+
+-- the sets that stand in this many places of a table's arrays, from one on
+unfoldable pub setsFrom : List ℕ → List Bool → List IdList → ℕ → ℕ → List Shown
+setsFrom keys on shown i zero = []
+setsFrom keys on shown i (suc n) = shownBy (getD keys i 0) (getD on i false) (getD shown i past) ∷ setsFrom keys on shown (i + 1) n

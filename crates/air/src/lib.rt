@@ -1,0 +1,356 @@
+// Writing the shown sets of a table for air (document 01, Writing for air): whole blocks into a lent
+// buffer. Every function is proved, and write_air, the one that is `pub`, has no `requires`.
+// A set is cut by places: a piece is a range of the set's identifiers (specs/Parts.antt).
+ghost use mathlib.Core.Path.{_≡_};
+ghost use mathlib.Core.Bool.{Bool, not, _&&_};
+ghost use mathlib.Core.List.{List};
+ghost use Prim.Native.Nat.{_+_, _*_, _/_, _%_, _^_, _≤_, _<_};
+ghost use lib.ListN.{length, take};
+ghost use lib.Seq.{slice};
+ghost use Rattle.rules.specs.declared.Outcome.the-variants.{WrongTable};
+ghost use Rattle.rules.specs.Block.{bit};
+ghost use Rattle.rules.specs.Collecting.{keyWidth};
+ghost use Rattle.rules.specs.Air.{pieceMost, cut, hasKind, deadLink, pieces, bigBytes, allBytes, figBytes, blockOf, blocksOf, setBlocks, allBlocks, air, writtenTo};
+ghost use Rattle.lists.specs.Stored.{Holds};
+ghost use Rattle.table.specs.Stored.{EachHolds, Given};
+ghost use Rattle.out.specs.Put.{Puts};
+ghost use Rattle.out.specs.Answer.{writtenAs};
+ghost use Rattle.air.specs.Parts.{setIn, run, qualifierAt, partAt, pieceIn, Fitting, shownBy, setsFrom};
+use lists::IdList;
+use out::Written;
+use rules::Outcome;
+use table::Table;
+
+// A piece of a set: its identifiers are those at the places from `from` up to `to`. It is a start if it
+// begins at place 0.
+struct Part {
+    from: usize,
+    to: usize,
+    qualifier: u8,
+}
+
+// 1 or 0.
+fn bit_of(b: bool) -> usize
+    ensures { λ r. ⌜ (r ≡ bit b) × (r ≤ 1) ⌝ }
+{
+    if b { 1 } else { 0 }
+}
+
+// ---- cutting a set
+
+// The most identifiers to a piece of a key's set.
+fn most_of(key: u32) -> usize
+    ensures { λ r. ⌜ r ≡ pieceMost (keyWidth key) ⌝ }
+{
+    let width = lists::width_of(key);
+    if width == 4 {
+        6
+    } else if width == 3 {
+        8
+    } else {
+        12
+    }
+}
+
+// The qualifier of the piece that begins at a place.
+fn qualifier_at(kinds: &[u8], len: usize, from: usize) -> u8
+    requires { ⌜ (from < len) × (len ≤ length (now kinds)) ⌝ }
+    ensures { λ r. ⌜ r ≡ qualifierAt (take len (now (kinds .entry))) from ⌝ }
+{
+    if 0 < from {
+        kinds[from]
+    } else if 1 < len {
+        kinds[1]
+    } else {
+        0
+    }
+}
+
+// Where a run of one kind that begins at a place ends.
+fn run_end(kinds: &[u8], from: usize, end: usize, kind: u8) -> usize
+    requires { ⌜ (from ≤ end) × (end ≤ length (now kinds)) ⌝ }
+    ensures { λ r. ⌜ r ≡ from + run kind (slice from end (now (kinds .entry))) ⌝ }
+{
+    let mut i = from;
+    while i < end {
+        if kinds[i] != kind {
+            return i;
+        }
+        i += 1;
+    }
+    i
+}
+
+// The piece that begins at a place.
+fn part_at(kinds: &[u8], len: usize, from: usize, key: u32) -> Part
+    requires { ⌜ (from < len) × (len ≤ length (now kinds)) ⌝ }
+    ensures { λ r. ⌜ r ≡ partAt (pieceMost (keyWidth key)) (take len (now (kinds .entry))) from ⌝ }
+{
+    let end = lists::least(len, from + most_of(key));
+    let qualifier = qualifier_at(kinds, len, from);
+    let to = run_end(kinds, from + 1, end, qualifier);
+    Part {
+        from,
+        to,
+        qualifier,
+    }
+}
+
+// How many pieces the identifiers of a list are cut into.
+fn cut_count(list: IdList, key: u32) -> usize
+    requires { ⌜ list .len ≤ 128 ⌝ }
+    ensures { λ r. ⌜ (r ≡ length (cut (pieceMost (keyWidth key)) (setIn list .items))) × (r ≤ list .len) ⌝ }
+{
+    let len = list.len;
+    let mut n: usize = 0;
+    let mut from: usize = 0;
+    while from < len {
+        let part = part_at(&list.kinds, len, from, key);
+        from = part.to;
+        n += 1;
+    }
+    n
+}
+
+// Whether a kind, which the list names or not, is a dead link: named, and no identifier has it.
+fn is_dead(list: IdList, kind: u8, named: bool) -> bool
+    requires { ⌜ list .len ≤ 128 ⌝ }
+    ensures { λ r. ⌜ r ≡ (named && not (hasKind kind (setIn list .items))) ⌝ }
+{
+    if !named {
+        return false;
+    }
+    let len = list.len;
+    let mut i: usize = 0;
+    while i < len {
+        if list.kinds[i] == kind {
+            return false;
+        }
+        i += 1;
+    }
+    true
+}
+
+// How many pieces a set is cut into.
+fn piece_count(list: IdList, key: u32) -> usize
+    requires { ⌜ list .len ≤ 128 ⌝ }
+    ensures { λ r. ⌜ (r ≡ length (pieces (pieceMost (keyWidth key)) (setIn list))) × (r ≤ 130) ⌝ }
+{
+    let n = cut_count(list, key);
+    let rds = bit_of(is_dead(list, 1, list.named % 2 == 1));
+    let drm = bit_of(is_dead(list, 3, list.named / 2 == 1));
+    n + rds + drm
+}
+
+// ---- a piece as a block
+
+// The byte of a number at a place, place 0 the lowest.
+fn byte_at(n: u32, place: usize) -> u8
+    requires { ⌜ place < 4 ⌝ }
+    ensures { λ r. ⌜ r ≡ n / 256 ^ place % 256 ⌝ }
+{
+    ((n >> (8 * place)) % 256) as u8
+}
+
+// A number in this many bytes, the highest first, at a place, and the place after it.
+fn put_number(out: &mut [u8], at: usize, width: usize, n: u32) -> usize
+    requires { ⌜ width ≤ 4 ⌝ }
+    ensures { λ r. ⌜ Puts (now (out .entry)) at (bigBytes width n) (now (out .exit)) r ⌝ }
+{
+    let mut p = out::cut_to(at, out.len());
+    let mut k = width;
+    while 0 < k {
+        k -= 1;
+        p = out::put(out, p, byte_at(n, k));
+    }
+    p
+}
+
+// The numbers of a range, each in this many bytes, at a place, and the place after them.
+fn put_numbers(
+    out: &mut [u8],
+    at: usize,
+    width: usize,
+    numbers: &[u32],
+    from: usize,
+    to: usize,
+) -> usize
+    requires { ⌜ (width ≤ 4) × (from ≤ to) × (to ≤ length (now numbers)) ⌝ }
+    ensures { λ r. ⌜ Puts (now (out .entry)) at (allBytes width (slice from to (now (numbers .entry)))) (now (out .exit)) r ⌝ }
+{
+    let mut p = out::cut_to(at, out.len());
+    let mut i = from;
+    while i < to {
+        p = put_number(out, p, width, numbers[i]);
+        i += 1;
+    }
+    p
+}
+
+// The linking FIG of a piece at the front of a buffer, and the place after it.
+fn put_fig(out: &mut [u8], key: u32, on: bool, part: Part, numbers: &[u32]) -> usize
+    requires { ⌜ Fitting key (length (now numbers)) part ⌝ }
+    ensures { λ r. ⌜ Puts (now (out .entry)) 0 (figBytes key on (pieceIn (now (numbers .entry)) part)) (now (out .exit)) r ⌝ }
+{
+    let from = part.from;
+    let to = part.to;
+    let width = lists::width_of(key);
+    let count = to - from;
+    let more = bit_of(from != 0);
+    let state = bit_of(on);
+    let k = key as usize;
+    let head = [
+        (4 + count * width) as u8,
+        (more * 128 + k / 32768 % 2 * 64 + k / 16384 % 2 * 32 + 6) as u8,
+        (128 + state * 64 + k / 8192 % 2 * 32 + k / 4096 % 2 * 16 + k % 4096 / 256) as u8,
+        (k % 256) as u8,
+        part.qualifier * 32 + count as u8,
+    ];
+    let p = out::put_bytes(out, 0, &head);
+    put_numbers(out, p, width, numbers, from, to)
+}
+
+// The block of a piece: its FIG, FF, zeros, and the check of the 30 bytes before it.
+fn block_of(key: u32, on: bool, part: Part, numbers: &[u32]) -> [u8; 32]
+    requires { ⌜ Fitting key (length (now numbers)) part ⌝ }
+    ensures { λ r. ⌜ r ≡ blockOf (figBytes key on (pieceIn (now (numbers .entry)) part)) ⌝ }
+{
+    let mut block = [0u8; 32];
+    let end = put_fig(&mut block, key, on, part, numbers);
+    out::put(&mut block, end, 255);
+    let check = crc::check_of(&block[..30]);
+    block[30] = (check / 256) as u8;
+    block[31] = (check % 256) as u8;
+    block
+}
+
+// The block of a piece at a place, and the place after it.
+fn put_block(out: &mut [u8], at: usize, key: u32, on: bool, part: Part, numbers: &[u32]) -> usize
+    requires { ⌜ Fitting key (length (now numbers)) part ⌝ }
+    ensures { λ r. ⌜ Puts (now (out .entry)) at (blockOf (figBytes key on (pieceIn (now (numbers .entry)) part))) (now (out .exit)) r ⌝ }
+{
+    let block = block_of(key, on, part, numbers);
+    out::put_bytes(out, at, &block)
+}
+
+// ---- a set
+
+// The blocks of a list's identifiers at a place, and the place after them.
+fn put_cut(out: &mut [u8], at: usize, key: u32, on: bool, list: IdList) -> usize
+    requires { ⌜ Holds key list ⌝ }
+    ensures { λ r. ⌜ Puts (now (out .entry)) at (blocksOf key on (cut (pieceMost (keyWidth key)) (setIn list .items))) (now (out .exit)) r ⌝ }
+{
+    let len = list.len;
+    let mut p = out::cut_to(at, out.len());
+    let mut from: usize = 0;
+    while from < len {
+        let part = part_at(&list.kinds, len, from, key);
+        p = put_block(out, p, key, on, part, &list.numbers);
+        from = part.to;
+    }
+    p
+}
+
+// The block of a kind's dead link at a place, if it is one, and the place after it. It is a continuation, so
+// its empty range does not begin at place 0.
+fn put_dead(
+    out: &mut [u8],
+    at: usize,
+    key: u32,
+    on: bool,
+    list: IdList,
+    kind: u8,
+    named: bool,
+) -> usize
+    requires { ⌜ (list .len ≤ 128) × (kind < 4) ⌝ }
+    ensures { λ r. ⌜ Puts (now (out .entry)) at (blocksOf key on (deadLink kind named (setIn list .items))) (now (out .exit)) r ⌝ }
+{
+    if is_dead(list, kind, named) {
+        let part = Part {
+            from: 1,
+            to: 1,
+            qualifier: kind,
+        };
+        put_block(out, at, key, on, part, &list.numbers)
+    } else {
+        out::cut_to(at, out.len())
+    }
+}
+
+// The blocks of a set at a place, and the place after them: none where there is no set.
+fn put_set(out: &mut [u8], at: usize, key: u32, on: bool, list: IdList) -> usize
+    requires { ⌜ Holds key list ⌝ }
+    ensures { λ r. ⌜ Puts (now (out .entry)) at (setBlocks (shownBy key on list)) (now (out .exit)) r ⌝ }
+{
+    let named = list.named;
+    let p = put_cut(out, at, key, on, list);
+    let q = put_dead(out, p, key, on, list, 1, named % 2 == 1);
+    put_dead(out, q, key, on, list, 3, named / 2 == 1)
+}
+
+// ---- a table
+
+// How many pieces the sets of a table's first entries are cut into.
+fn count_all(count: usize, keys: [u32; 32], shown: [IdList; 32]) -> usize
+    requires { ⌜ (count ≤ 32) × EachHolds keys shown ⌝ }
+    ensures { λ r. ⌜ ((on : List Bool) → 32 * r ≡ length (allBlocks (setsFrom keys on shown 0 count))) × (r ≤ 4160) ⌝ }
+{
+    let mut n: usize = 0;
+    let mut i: usize = 0;
+    while i < count {
+        let list = shown[i];
+        n += piece_count(list, keys[i]);
+        i += 1;
+    }
+    n
+}
+
+// The blocks of these sets at the front of a buffer, and the place after them.
+fn put_all(
+    out: &mut [u8],
+    count: usize,
+    keys: [u32; 32],
+    on: [bool; 32],
+    shown: [IdList; 32],
+) -> usize
+    requires { ⌜ (count ≤ 32) × EachHolds keys shown ⌝ }
+    ensures { λ r. ⌜ Puts (now (out .entry)) 0 (allBlocks (setsFrom keys on shown 0 count)) (now (out .exit)) r ⌝ }
+{
+    let mut p: usize = 0;
+    let mut i: usize = 0;
+    while i < count {
+        let list = shown[i];
+        p = put_set(out, p, keys[i], on[i], list);
+        i += 1;
+    }
+    p
+}
+
+// The shown sets of a table as whole blocks: 9; then 8 with nothing written; the buffer past the output
+// untouched.
+pub fn write_air(table: Table, out: &mut [u8]) -> Written
+    ensures { λ r. ⌜ Given table (λ c. writtenAs r (now (out .exit)) ≡ writtenTo (air c) (now (out .entry)))
+        (writtenAs r (now (out .exit)) ≡ record { outcome = WrongTable; size = 0; buffer = now (out .entry) }) ⌝ }
+{
+    if !table.meets() {
+        return Written {
+            outcome: Outcome::WrongTable,
+            size: 0,
+        };
+    }
+    let count = table.count;
+    let keys = table.keys;
+    let on = table.on;
+    let shown = table.shown;
+    if out.len() < 32 * count_all(count, keys, shown) {
+        return Written {
+            outcome: Outcome::ShortBuffer,
+            size: 0,
+        };
+    }
+    let size = put_all(out, count, keys, on, shown);
+    Written {
+        outcome: Outcome::Done,
+        size,
+    }
+}

@@ -1,0 +1,37 @@
+// Lists a stored sheet: a sheet on standard input, the lines of the listing program on standard output.
+// What is no sheet gets one sentence on standard error and nothing on standard output. Loading and the
+// text are proved in crates sheet and text; here it is proved that every call is in order.
+use libc::STDERR_FILENO;
+use libc::STDIN_FILENO;
+use libc::STDOUT_FILENO;
+use rules::Outcome;
+use table::Table;
+
+// Writes the first n bytes of an output.
+fn emit(out: &[u8], n: usize) {
+    if n <= out.len() {
+        io::write_all(STDOUT_FILENO, &out[..n]);
+    }
+}
+
+// Prints the listing of a table.
+fn print(table: Table) {
+    let mut out = [0u8; 49152];
+    let written = text::write_listing(table, 0, &mut out);
+    emit(&out, written.size);
+}
+
+// A sheet has at most 24,801 bytes: with room for one more, a longer input is refused as it should be.
+fn main() {
+    let mut bytes = [0u8; 24802];
+    let n = io::read_full(STDIN_FILENO, &mut bytes);
+    let loaded = sheet::load_sheet(&bytes[..n]);
+    let table = loaded.table;
+    let outcome = loaded.outcome;
+    match outcome {
+        Outcome::Done => print(table),
+        _ => {
+            io::write_all(STDERR_FILENO, b"not a sheet (10)\n");
+        }
+    }
+}

@@ -1,0 +1,12 @@
+pub mod Numbers
+pub mod Groups
+pub mod Tests
+pub mod Heads
+pub mod Stores
+pub mod Shown
+pub mod Writes
+pub mod Pairs
+pub mod Sets
+pub mod Loads
+pub mod Contents
+pub mod Promises

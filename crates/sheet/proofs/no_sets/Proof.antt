@@ -1,0 +1,23 @@
+-- `sheet::no_sets` meets its contract.
+use mathlib.Core.Path.{ap}
+use mathlib.Core.Bool.{false}
+use Rattle.table.specs.declared.Table.{Table}
+use Rattle.sheet.specs.declared.ReadSets.{ReadSets}
+use Rattle.sheet.specs.Reading.{noSets}
+use borrow.Author.Needs.{needs}
+use Rattle.sheet.proofs.no_sets.Statement.{statement}
+use Rattle.sheet.proofs.no_sets.Tie as tie
+
+empty-requires : tie.Need-empty-requires
+empty-requires c κs = search needs
+
+-- no sets, around the table of no entries
+abbrev around : Table → ReadSets
+around t = record { ok = false; table = t; next = 0 }
+
+returns : tie.Need-returns
+unfolding noSets
+returns c = ap around (c .empty .ensures)
+
+pub no-sets-spec : {M : Type 1} → statement M
+no-sets-spec = tie.close (tie.spec empty-requires returns)

@@ -1,0 +1,83 @@
+-- `text::lines_size` meets its contract: what is added up and what is left to add make the whole.
+use Prim.Native.Nat.{ℕ, _+_, _-_, _*_, _≤_}
+use native.Mathlib.Omega.{arith}
+use mathlib.Core.Path.{_≡_, refl, sym, ap, _∙_}
+use mathlib.Core.Logic.{⊎-elim}
+use lib.ListN.{length, length-append}
+use Rattle.rules.specs.Listing.{lineOf, linesOf}
+use Rattle.text.specs.Sets.{setsFrom, setsIn}
+use Rattle.text.proofs.SetLaws.{sets-skip, sets-next, sets-end, sets-all}
+use borrow.Author.Needs.{needs}
+use Rattle.text.proofs.lines_size.Statement.{statement}
+use Rattle.text.proofs.lines_size.Tie as tie
+
+abbrev Inv-loop : tie.InvT-loop
+Inv-loop table size₀ i₀ size i = (size + length (linesOf (setsFrom table i (table .count - i))) ≡ length (linesOf (setsIn table))) × (size ≤ i * 1320)
+
+abbrev μ-loop : tie.MeasureT-loop
+μ-loop table size₀ i₀ size i = table .count - i
+
+loop-holds : tie.Need-loop-holds Inv-loop μ-loop
+loop-holds c = (omega (arith, ap (λ ss. length (linesOf ss)) (sets-all (c .args .t1))), omega arith)
+
+mul-list : tie.Need-mul-list Inv-loop μ-loop
+mul-list c = search needs
+
+element-copy-out-list : tie.Need-element-copy-out-list Inv-loop μ-loop
+element-copy-out-list c = search needs
+
+mul-line-size : tie.Need-mul-line-size Inv-loop μ-loop
+mul-line-size c = search needs
+
+element-copy-out-line-size : tie.Need-element-copy-out-line-size Inv-loop μ-loop
+element-copy-out-line-size c = search needs
+
+element-copy-out-line-size-2 : tie.Need-element-copy-out-line-size-2 Inv-loop μ-loop
+element-copy-out-line-size-2 c = search needs
+
+line-size-requires : tie.Need-line-size-requires Inv-loop μ-loop
+line-size-requires c κs = tt
+
+add-size : tie.Need-add-size Inv-loop μ-loop
+add-size c = ?
+
+add-i : tie.Need-add-i Inv-loop μ-loop
+add-i c = search needs
+
+loop-less : tie.Need-loop-less Inv-loop μ-loop
+loop-less c = search needs
+
+loop-again : tie.Need-loop-again Inv-loop μ-loop
+loop-again c =
+    let t = c .before .before .before .before .before .args .t1 in
+    let at = c .before .before .before .before .loop in
+    let inside = c .before .before .before .loop-test .taken in
+    ⊎-elim
+    (λ w. ?)
+    (λ w. (omega (arith, at .inv .0, w .1, ap (λ ss. length (linesOf ss)) (sets-skip t (at .i) (t .count) inside (w .0 .left))), omega (arith, at .inv .1, w .1)))
+    (c .if1 .came)
+
+returns : tie.Need-returns Inv-loop μ-loop
+returns c =
+    let t = c .before .before .args .t1 in
+    let at = c .before .loop in
+    (omega (arith, at .inv .0, ap (λ ss. length (linesOf ss)) (sets-end t (at .i) (t .count) (c .loop-test .left))), ?)
+
+pub lines-size-spec : {M : Type 1} → statement M
+lines-size-spec =
+    tie.close
+    (tie.spec
+    Inv-loop
+    μ-loop
+    loop-holds
+    mul-list
+    element-copy-out-list
+    mul-line-size
+    element-copy-out-line-size
+    element-copy-out-line-size-2
+    line-size-requires
+    add-size
+    add-i
+    loop-less
+    loop-again
+    returns)
