@@ -1,20 +1,19 @@
--- Laws of the shown sets of a table. In order: what stands at a place, and the end; each loop's turn; the sets of a stored table
--- are those of its content; the answers of the whole listing.
+-- Laws of the shown sets of a table. In order: what stands at a place, and the end; writing where a branch left it; the sets of a
+-- stored table are those of its content; its listing, and how long that is.
 use Prim.Native.Nat.{ℕ, zero, suc, _+_, _-_, _<_, _≤_}
-use native.Mathlib.Nat.{add-zero}
 use native.Mathlib.Numerals.{add-one}
 use native.Mathlib.Omega.{arith}
-use mathlib.Core.Path.{_≡_, refl, sym, ap, _∙_}
-use mathlib.Core.Bool.{Bool, true, false, cond}
+use mathlib.Core.Path.{_≡_, refl, sym, ap, _∙_, subst}
+use mathlib.Core.Bool.{Bool, true, false}
 use mathlib.Core.List.{List, [], _∷_, _++_}
 use mathlib.Core.Option.{Option, none, some}
 use lib.ListN.{length, getD, drop, length-append, drop-of-length-le}
 use lib.Seq.{drop-cons}
 use borrow.Author.Tests.{eq-eqb, ne-eqb}
-use Rattle.rules.specs.Collecting.{IdSet, Held, Content, meets, ifThere, setMeets, Shown, showing, shownSets}
-use Rattle.rules.specs.Listing.{linesOf, tailText, listing}
+use Rattle.rules.specs.Collecting.{IdSet, Held, Content, meets, ifThere, Shown, showing, shownSets}
+use Rattle.rules.specs.Listing.{lineOf, linesOf, tailText, listing}
 use Rattle.lists.specs.declared.IdList.{IdList}
-use Rattle.lists.specs.Stored.{storeList, storeMaybe, emptyList, pairsIn}
+use Rattle.lists.specs.Stored.{storeList, storeMaybe, emptyList}
 use Rattle.lists.proofs.StoredLaws.{pairs-in-store, not-none, set-facts}
 use Rattle.table.specs.declared.Table.{Table}
 use Rattle.table.specs.Stored.{keyIn, onIn, shownIn, storeTable, past}
@@ -22,6 +21,7 @@ use Rattle.table.proofs.TableLaws.{meets-facts, entry-facts}
 use Rattle.table.proofs.Entries.{noEntry}
 use Rattle.table.proofs.CopyOut.{column-at, entry-at}
 use Rattle.text.specs.Lines.{shownAs, setsText}
+use Rattle.out.proofs.Runs.{Going}
 use Rattle.text.proofs.Texts.{listing-parts}
 use Rattle.text.specs.Sets.{ifShown, setsFrom, setsIn}
 
@@ -46,6 +46,12 @@ module _ (t : Table) (i n : ℕ) where
   unfolding ifShown
   sets-next h z = sets-here h ∙ rw (ne-eqb _ _ z)
 
+  pub lines-next : i < n → (getD (t .shown) i past .len ≡ 0 → ⊥)
+      → linesOf (setsFrom t i (n - i))
+      ≡ lineOf (shownAs (getD (t .keys) i 0) (getD (t .on) i false) (getD (t .shown) i past)) ++ linesOf (setsFrom t (i + 1) (n - (i + 1)))
+  unfolding linesOf
+  lines-next h z = ap linesOf (sets-next h z)
+
   pub sets-end : n ≤ i → setsFrom t i (n - i) ≡ []
   unfolding setsFrom
   sets-end h =
@@ -57,6 +63,10 @@ unfolding setsIn
 sets-all t =
     let e : t .count - 0 ≡ t .count = omega arith in
     ap (setsFrom t 0) e
+
+-- a run a part at a time, where a branch left it
+pub going-as : {l us m m' rest rest' : List ℕ} {i j j' : ℕ} → m' ≡ m → j' ≡ j → rest ≡ rest' → Going l i us m j rest → Going l i us m' j' rest'
+going-as {l} {us} {i = i} p q r g = subst (λ (x : List ℕ × ℕ × List ℕ). Going l i us (x .0) (x .1) (x .2)) (λ k. (sym p k, sym q k, r k)) g
 
 -- ---- the sets of a stored table
 
@@ -91,7 +101,7 @@ module _ (c : Content) (m : meets c ≡ true) where
       ∙ sym (ap shownSets here)
 
   pub sets-stored : setsIn (storeTable c) ≡ shownSets c
-  unfolding setsIn
+  unfolding setsIn storeTable
   sets-stored = sets-after (length c) 0 (omega arith)
 
 -- ---- the listing of a stored table, by the sets in its arrays

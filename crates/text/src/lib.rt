@@ -308,8 +308,8 @@ fn shown_count(table: Table) -> usize
     let mut n = 0;
     let mut i = 0;
     while i < table.count {
-        let list = table.shown[i];
-        if list.len != 0 {
+        let shown = table.shown[i];
+        if shown.len != 0 {
             n += 1;
         }
         i += 1;
@@ -340,13 +340,13 @@ fn put_lines(out: &mut [u8], at: usize, table: Table) -> usize
     ensures { λ r. ⌜ Puts (now (out .entry)) at (linesOf (setsIn table)) (now (out .exit)) r ⌝ }
 {
     let mut p = cut_to(at, out.len());
-    let mut i = 0;
-    while i < table.count {
-        let list = table.shown[i];
-        if list.len != 0 {
-            p = put_line(out, p, table.keys[i], table.on[i], list);
+    let mut k = 0;
+    while k < table.count {
+        let set = table.shown[k];
+        if set.len != 0 {
+            p = put_line(out, p, table.keys[k], table.on[k], set);
         }
-        i += 1;
+        k += 1;
     }
     p
 }

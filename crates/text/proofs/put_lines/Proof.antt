@@ -1,34 +1,36 @@
 -- `text::put_lines` meets its contract: the lines of the sets from the present entry on are what is left to write.
-use Prim.Native.Nat.{ℕ, _+_, _-_, _*_, _≤_}
-use native.Mathlib.Omega.{arith}
-use mathlib.Core.Path.{_≡_, refl, sym, ap, _∙_}
+use Prim.Native.Nat.{_-_}
+use mathlib.Core.Path.{refl, sym, ap, subst}
 use mathlib.Core.Logic.{⊎-elim}
-use lib.ListN.{length, length-append}
-use Rattle.rules.specs.Listing.{lineOf, linesOf}
+use Rattle.rules.specs.Listing.{linesOf}
 use Rattle.out.proofs.Runs.{Going, going-start, going-on, going-end}
 use Rattle.text.specs.Sets.{setsFrom, setsIn}
-use Rattle.text.proofs.SetLaws.{sets-skip, sets-next, sets-end, sets-all}
+use Rattle.text.proofs.SetLaws.{sets-skip, lines-next, sets-end, sets-all, going-as}
 use borrow.Author.Needs.{needs}
 use Rattle.text.proofs.put_lines.Statement.{statement}
 use Rattle.text.proofs.put_lines.Tie as tie
 
 abbrev Inv-loop : tie.InvT-loop
-Inv-loop out₀ at table p₀ i₀ out p i = Going out₀ at (linesOf (setsIn table)) out p (linesOf (setsFrom table i (table .count - i)))
+Inv-loop out₀ at table p₀ k₀ out p k = Going out₀ at (linesOf (setsIn table)) out p (linesOf (setsFrom table k (table .count - k)))
 
 abbrev μ-loop : tie.MeasureT-loop
-μ-loop out₀ at table p₀ i₀ out p i = table .count - i
+μ-loop out₀ at table p₀ k₀ out p k = table .count - k
 
 cut-to-requires : tie.Need-cut-to-requires Inv-loop μ-loop
 cut-to-requires c κs = tt
 
 loop-holds : tie.Need-loop-holds Inv-loop μ-loop
-loop-holds c = ?
+loop-holds c =
+    subst
+    (λ rest. Going (c .before .before .args .out .now) (c .before .before .args .at) (linesOf (setsIn (c .before .before .args .t3))) (c .before .before .args .out .now) (c .cut-to .result) rest)
+    (sym (ap linesOf (sets-all (c .before .before .args .t3))))
+    (going-start _ _ _ _ (c .cut-to .ensures))
 
-mul-list : tie.Need-mul-list Inv-loop μ-loop
-mul-list c = search needs
+mul-set : tie.Need-mul-set Inv-loop μ-loop
+mul-set c = search needs
 
-element-copy-out-list : tie.Need-element-copy-out-list Inv-loop μ-loop
-element-copy-out-list c = search needs
+element-copy-out-set : tie.Need-element-copy-out-set Inv-loop μ-loop
+element-copy-out-set c = search needs
 
 mul-put-line : tie.Need-mul-put-line Inv-loop μ-loop
 mul-put-line c = search needs
@@ -42,24 +44,31 @@ element-copy-out-put-line-2 c = search needs
 put-line-requires : tie.Need-put-line-requires Inv-loop μ-loop
 put-line-requires c κs = tt
 
-add-i : tie.Need-add-i Inv-loop μ-loop
-add-i c = search needs
+add-k : tie.Need-add-k Inv-loop μ-loop
+add-k c = search needs
 
 loop-less : tie.Need-loop-less Inv-loop μ-loop
 loop-less c = search needs
 
 loop-again : tie.Need-loop-again Inv-loop μ-loop
 loop-again c =
+    let t = c .before .before .before .before .before .before .before .args .t3 in
+    let at = c .before .before .before .before .loop in
+    let inside = c .before .before .before .loop-test .taken in
     ⊎-elim
-    (λ w. ?)
-    (λ w. ?)
+    (λ w. going-as (w .7) (w .8) refl (going-on (lines-next t (at .k) (t .count) inside (w .0 .taken)) (at .inv) (w .4 .ensures)))
+    (λ w. going-as (w .1) (w .2) (ap linesOf (sets-skip t (at .k) (t .count) inside (w .0 .left))) (at .inv))
     (c .if1 .came)
 
 same-length : tie.Need-same-length Inv-loop μ-loop
 same-length c = c .before .loop .inv .long
 
 returns : tie.Need-returns Inv-loop μ-loop
-returns c = ?
+unfolding linesOf
+returns c =
+    let t = c .before .before .before .before .args .t3 in
+    let at = c .before .loop in
+    going-end (ap linesOf (sets-end t (at .k) (t .count) (c .loop-test .left))) (at .inv)
 
 pub put-lines-spec : {M : Type 1} → statement M
 put-lines-spec =
@@ -69,13 +78,13 @@ put-lines-spec =
     μ-loop
     cut-to-requires
     loop-holds
-    mul-list
-    element-copy-out-list
+    mul-set
+    element-copy-out-set
     mul-put-line
     element-copy-out-put-line
     element-copy-out-put-line-2
     put-line-requires
-    add-i
+    add-k
     loop-less
     loop-again
     same-length

@@ -1,9 +1,9 @@
 -- `text::shown_count` meets its contract: what is counted and what is left to count make the whole.
-use Prim.Native.Nat.{ℕ, _+_, _-_, _*_, _≤_}
+use Prim.Native.Nat.{_+_, _-_, _≤_}
 use native.Mathlib.Omega.{arith}
-use mathlib.Core.Path.{_≡_, refl, sym, ap, _∙_}
+use mathlib.Core.Path.{_≡_, ap}
 use mathlib.Core.Logic.{⊎-elim}
-use lib.ListN.{length, length-append}
+use lib.ListN.{length}
 use Rattle.text.specs.Sets.{setsFrom, setsIn}
 use Rattle.text.proofs.SetLaws.{sets-skip, sets-next, sets-end, sets-all}
 use borrow.Author.Needs.{needs}
@@ -19,11 +19,11 @@ abbrev μ-loop : tie.MeasureT-loop
 loop-holds : tie.Need-loop-holds Inv-loop μ-loop
 loop-holds c = (omega (arith, ap length (sets-all (c .args .t1))), omega arith)
 
-mul-list : tie.Need-mul-list Inv-loop μ-loop
-mul-list c = search needs
+mul-shown : tie.Need-mul-shown Inv-loop μ-loop
+mul-shown c = search needs
 
-element-copy-out-list : tie.Need-element-copy-out-list Inv-loop μ-loop
-element-copy-out-list c = search needs
+element-copy-out-shown : tie.Need-element-copy-out-shown Inv-loop μ-loop
+element-copy-out-shown c = search needs
 
 add-n : tie.Need-add-n Inv-loop μ-loop
 add-n c = search needs
@@ -57,8 +57,8 @@ shown-count-spec =
     Inv-loop
     μ-loop
     loop-holds
-    mul-list
-    element-copy-out-list
+    mul-shown
+    element-copy-out-shown
     add-n
     add-i
     loop-less

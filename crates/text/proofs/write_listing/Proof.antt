@@ -1,72 +1,72 @@
+-- `text::write_listing` meets its contract: the sets in the arrays of a stored table are those of its content, and the lines
+-- follow each other.
+use native.Mathlib.Omega.{arith}
+use mathlib.Core.Path.{refl}
+use borrow.Author.Tests.{not-true, not-false}
+use Rattle.table.proofs.GivenLaws.{given-wrong, given-right, tested-short}
+use Rattle.out.specs.Answer.{writtenAs}
+use Rattle.out.proofs.Runs.{puts-as, puts-then}
+use Rattle.out.proofs.Answers.{written-short, written-done}
+use Rattle.text.proofs.SetLaws.{listing-of, listing-size}
 use borrow.Author.Needs.{needs}
 use Rattle.text.proofs.write_listing.Statement.{statement}
 use Rattle.text.proofs.write_listing.Tie as tie
-use Rattle.text.proofs.write_listing.Reads as reads
-use Rattle.text.proofs.write_listing.Lts as lts
-use Rattle.table.proofs.Table.meets.Reads as meets-reads
-use Rattle.text.proofs.first_size.Reads as first-size-reads
-use Rattle.text.proofs.lines_size.Reads as lines-size-reads
-use Rattle.text.proofs.put_first.Reads as put-first-reads
-use Rattle.text.proofs.put_lines.Reads as put-lines-reads
-use Rattle.text.proofs.put_tail.Reads as put-tail-reads
-use Rattle.text.proofs.shown_count.Reads as shown-count-reads
-use Rattle.text.proofs.tail_size.Reads as tail-size-reads
 
--- src/lib.rt:361:9
 meets-requires : tie.Need-meets-requires
 meets-requires c κs = search needs
 
--- src/lib.rt:362:9
 returns : tie.Need-returns
-returns c = ?
+unfolding writtenAs
+returns c = given-wrong (c .before .meets .ensures) (not-true _ (c .if1 .taken)) refl
 
--- src/lib.rt:367:9
 shown-count-requires : tie.Need-shown-count-requires
-shown-count-requires c κs = ?
+shown-count-requires c κs = tested-short (c .before .before .before .args .table) (c .before .meets .ensures) (not-false _ (c .if1 .left))
 
--- src/lib.rt:368:16
 first-size-requires : tie.Need-first-size-requires
 first-size-requires c κs = search needs
 
--- src/lib.rt:368:35
 lines-size-requires : tie.Need-lines-size-requires
-lines-size-requires c κs = ?
+lines-size-requires c κs = tested-short (c .before .before .before .before .before .args .table) (c .before .before .before .meets .ensures) (not-false _ (c .before .before .if1 .left))
 
--- src/lib.rt:368:16
 add-size : tie.Need-add-size
 add-size c = search needs
 
--- src/lib.rt:368:55
 tail-size-requires : tie.Need-tail-size-requires
 tail-size-requires c κs = search needs
 
--- src/lib.rt:368:16
 add-size-2 : tie.Need-add-size-2
 add-size-2 c = search needs
 
--- src/lib.rt:370:9
 returns-2 : tie.Need-returns-2
-returns-2 c = ?
+returns-2 c =
+    let a = c .before .before .before .before .before .before .before .before .args in
+    given-right (c .before .before .before .before .before .before .meets .ensures) (not-false _ (c .before .before .before .before .before .if1 .left)) (λ d m e.
+      written-short _ _
+      (omega (arith, c .if2 .taken,
+        listing-size (a .table) d m e (a .over) _ (c .before .before .before .before .shown-count .ensures) (c .before .before .before .first-size .ensures .0) (c .before .before .lines-size .ensures .0) (c .before .tail-size .ensures .0))))
 
--- src/lib.rt:375:9
 put-first-requires : tie.Need-put-first-requires
 put-first-requires c κs = search needs
 
--- src/lib.rt:376:9
 put-lines-requires : tie.Need-put-lines-requires
-put-lines-requires c κs = ?
+put-lines-requires c κs = tested-short (c .before .before .before .before .before .before .before .before .before .before .before .before .before .args .table) (c .before .before .before .before .before .before .before .before .before .before .before .meets .ensures) (not-false _ (c .before .before .before .before .before .before .before .before .before .before .if1 .left))
 
--- src/lib.rt:377:9
 put-tail-requires : tie.Need-put-tail-requires
 put-tail-requires c κs = search needs
 
--- src/lib.rt:356:1
 same-length : tie.Need-same-length
 same-length c = search needs
 
--- src/lib.rt:356:1
 returns-3 : tie.Need-returns-3
-returns-3 c = ?
+returns-3 c =
+    let a = c .before .before .before .before .before .before .before .before .before .before .before .before .before .before .before .before .before .before .before .before .args in
+    let n = c .before .before .before .before .before .before .before .before .before .before .before .before .before .before .before .before .shown-count .ensures in
+    given-right (c .before .before .before .before .before .before .before .before .before .before .before .before .before .before .before .before .before .before .meets .ensures) (not-false _ (c .before .before .before .before .before .before .before .before .before .before .before .before .before .before .before .before .before .if1 .left)) (λ d m e.
+      written-done
+      (omega (arith, c .before .before .before .before .before .before .before .before .before .before .before .before .if2 .left,
+        listing-size (a .table) d m e (a .over) _ n (c .before .before .before .before .before .before .before .before .before .before .before .before .before .before .before .first-size .ensures .0) (c .before .before .before .before .before .before .before .before .before .before .before .before .before .before .lines-size .ensures .0) (c .before .before .before .before .before .before .before .before .before .before .before .before .before .tail-size .ensures .0)))
+      (puts-as (listing-of (a .table) d m e (a .over) _ n)
+        (puts-then (puts-then (c .before .before .before .before .before .before .before .before .before .before .put-first .ensures) (c .before .before .before .before .before .before .put-lines .ensures)) (c .before .before .put-tail .ensures))))
 
 pub write-listing-spec : {M : Type 1} → statement M
 write-listing-spec =

@@ -1,0 +1,28 @@
+-- `list_sheet::emit` is safe: the part is as long as it says.
+use mathlib.Core.Path.{sym}
+use lib.Seq.{length-take-le}
+use borrow.Author.Needs.{needs}
+use Rattle.list_sheet.proofs.emit.Statement.{statement}
+use Rattle.list_sheet.proofs.emit.Tie as tie
+use Rattle.list_sheet.proofs.emit.Reads as reads
+use Rattle.list_sheet.proofs.emit.Lts as lts
+use Rattle.io.proofs.write_all.Reads as write-all-reads
+
+-- src/main.rt:13:38
+slice-aggregate-write-all : tie.Need-slice-aggregate-write-all
+slice-aggregate-write-all c = sym (length-take-le _ _ (c .before .if1 .taken))
+
+-- src/main.rt:13:9
+write-all-requires : tie.Need-write-all-requires
+write-all-requires c κs = search needs
+
+-- src/main.rt:11:1
+returns : tie.Need-returns
+returns c = search needs
+
+-- src/main.rt:11:1
+returns-2 : tie.Need-returns-2
+returns-2 c = search needs
+
+pub emit-spec : {M : Type 1} → statement M
+emit-spec = tie.close (tie.spec slice-aggregate-write-all write-all-requires returns returns-2)

@@ -1,0 +1,201 @@
+-- Every call has a numbered outcome, and every refusal says what it leaves (document 01, demand 1). In order: reading a block,
+-- a recording, forgetting, copying out; of each the answers that there are (a data type with a constructor for each kind of
+-- answer: when it is given, its number, and what is left) and that there are no others.
+use Prim.Native.Nat.{ℕ, _%_, _≤_, _<_}
+use mathlib.Core.Path.{_≡_, refl, sym, ap, _∙_, subst}
+use mathlib.Core.Bool.{true, false, _||_}
+use mathlib.Core.List.{List, [], _∷_}
+use mathlib.Core.Logic.{_⊎_, inl, inr}
+use mathlib.Core.Option.{Option, none, some}
+use lib.ListN.{length, replicate}
+use lib.Dec.{ltb, eqb}
+use borrow.Author.Tests.{eqb-true, eqb-false, ltb-true, ltb-false}
+use Rattle.rules.specs.declared.Outcome.{Outcome}
+use Rattle.rules.specs.declared.Outcome.the-variants.{Done, NotHeld, ShortBuffer, WrongTable, NotShown}
+use Rattle.rules.specs.Field.{Field}
+use Rattle.rules.specs.Family.{find, forget, dropOpen}
+use Rattle.rules.specs.Collecting.{linkage, IdSet, Held, Content, meets}
+use Rattle.rules.specs.Outcomes as Outcomes
+use Rattle.rules.specs.Outcomes.{numberOf, taken, verdict, readBlock, leftOver, heldOr, forgetOutcome, copySet, copyHeld, copyOut, notCopied}
+use Rattle.rules.proofs.Basics.{cases-bool, cases-option, none-some, or-cases, or-false-left, or-false-right}
+use Rattle.rules.proofs.LinkageLaws.{cases-verdict, answer-taken, answer-refused, no-block, notes-fields, Refusal, full-refusal}
+use Rattle.lists.specs.Stored.{emptyList}
+use Rattle.table.specs.declared.Table.{Table}
+use Rattle.table.specs.declared.Forgotten.{Forgotten}
+use Rattle.table.specs.declared.Copied.{Copied}
+use Rattle.table.specs.Stored.{storeTable, Stored, stored, notStored}
+use Rattle.table.specs.Answers.{forgottenAs, copiedAs}
+use Rattle.table.proofs.TableLaws.{meets-facts}
+use Rattle.reading.specs.declared.Answer.{Answer}
+use Rattle.reading.specs.declared.Recorded.{Recorded}
+use Rattle.reading.specs.Steps.{storeNotes, noNotes}
+use Rattle.reading.specs.Runs.{runAs, refusedTable, recordedAs, unrecorded}
+use Rattle.reading.proofs.RunLaws.{no-notes}
+use Rattle.reading.proofs.Turns.{store-closed}
+use Rattle.promises.proofs.Contracts.{ReadsBlock, ReadsRecording, Forgets, CopiesOut}
+
+-- ---- reading a block: 0 to 6, or 9
+
+-- held keys, on and off and shown sets are as they were; no list is open
+pub record Dropped (t u : Table) : Type 0 where
+  pub count : u .count ≡ t .count
+  pub keys : u .keys ≡ t .keys
+  pub on : u .on ≡ t .on
+  pub shown : u .shown ≡ t .shown
+  pub draft : u .draft ≡ replicate 32 emptyList
+
+pub data BlockAnswer (t : Table) (fib : List ℕ) (r : Answer) : Type 0 where
+  -- 0, with one note a field
+  done : Stored t → (fs : List Field) → verdict fib ≡ taken fs → numberOf (r .outcome) ≡ 0 → r .notes .count ≡ length fs → BlockAnswer t fib r
+  -- 1: everything is left as it was
+  notABlock : Stored t → (length fib ≡ 32 → ⊥) → numberOf (r .outcome) ≡ 1 → r .notes ≡ noNotes → r .table ≡ t → BlockAnswer t fib r
+  -- 2 to 6: everything but the open lists is left as it was
+  refusedBlock : Stored t → length fib ≡ 32 → 2 ≤ numberOf (r .outcome) → numberOf (r .outcome) ≤ 6 → r .notes ≡ noNotes → Dropped t (r .table)
+      → BlockAnswer t fib r
+  -- 9: everything is left as it was
+  wrongTable : (Stored t → ⊥) → numberOf (r .outcome) ≡ 9 → r .notes ≡ noNotes → r .table ≡ t → BlockAnswer t fib r
+
+dropped : (t u : Table) (c : Content) → meets c ≡ true → t ≡ storeTable c → u ≡ storeTable (dropOpen linkage c) → Dropped t u
+unfolding storeTable
+dropped t u c f p q =
+    let e = q ∙ store-closed c (meets-facts c f .short) in
+    record {
+      count = ap (λ (x : Table). x .count) e ∙ sym (ap (λ (x : Table). x .count) p);
+      keys = ap (λ (x : Table). x .keys) e ∙ sym (ap (λ (x : Table). x .keys) p);
+      on = ap (λ (x : Table). x .on) e ∙ sym (ap (λ (x : Table). x .on) p);
+      shown = ap (λ (x : Table). x .shown) e ∙ sym (ap (λ (x : Table). x .shown) p);
+      draft = ap (λ (x : Table). x .draft) e;
+    }
+
+pub read-block-answers : (t : Table) (fib : List ℕ) (r : Answer) → ReadsBlock t fib r → BlockAnswer t fib r
+unfolding Stored runAs refusedTable numberOf storeNotes
+read-block-answers t fib r (stored c f p a) =
+    cases-bool (eqb (length fib) 32)
+    (λ l. cases-verdict (verdict fib)
+    (λ fs e.
+    let q = a ∙ ap runAs (answer-taken c fib fs e) in
+    done (c, f, p) fs e (ap (λ (x : Answer). numberOf (x .outcome)) q) (ap (λ (x : Answer). x .notes .count) a ∙ notes-fields c fib fs e))
+    (λ o e.
+    let q = a ∙ ap runAs (answer-refused c fib o e) in
+    let n = ap (λ (x : Answer). numberOf (x .outcome)) q in
+    let b = subst Refusal e (full-refusal fib (eqb-true _ _ l)) in
+    refusedBlock (c, f, p) (eqb-true _ _ l) (subst (λ (m : ℕ). 2 ≤ m) (sym n) (b .0)) (subst (λ (m : ℕ). m ≤ 6) (sym n) (b .1))
+    (ap (λ (x : Answer). x .notes) q ∙ sym no-notes) (dropped t (r .table) c f p (ap (λ (x : Answer). x .table) q)))
+    (λ e. absurd (subst Refusal e (full-refusal fib (eqb-true _ _ l)))))
+    (λ l.
+    let q = a ∙ ap runAs (no-block c fib (eqb-false _ _ l)) in
+    notABlock (c, f, p) (eqb-false _ _ l) (ap (λ (x : Answer). numberOf (x .outcome)) q) (ap (λ (x : Answer). x .notes) q ∙ sym no-notes)
+    (ap (λ (x : Answer). x .table) q ∙ sym p))
+read-block-answers t fib r (notStored n a) =
+    wrongTable n (ap (λ (x : Answer). numberOf (x .outcome)) a) (ap (λ (x : Answer). x .notes) a) (ap (λ (x : Answer). x .table) a)
+
+-- ---- a recording: 0 or 9
+
+pub data RecordingAnswer (t : Table) (bytes : List ℕ) (r : Recorded) : Type 0 where
+  -- 0, with the number of bytes left over
+  done : Stored t → numberOf (r .outcome) ≡ 0 → r .rest ≡ length bytes % 32 → RecordingAnswer t bytes r
+  -- 9: everything is left as it was
+  wrongTable : (Stored t → ⊥) → numberOf (r .outcome) ≡ 9 → r .rest ≡ 0 → r .table ≡ t → RecordingAnswer t bytes r
+
+pub read-recording-answers : (t : Table) (bytes : List ℕ) (r : Recorded) → ReadsRecording t bytes r → RecordingAnswer t bytes r
+unfolding Stored recordedAs unrecorded numberOf leftOver
+read-recording-answers t bytes r (stored c f p a) = done (c, f, p) (ap (λ (x : Recorded). numberOf (x .outcome)) a) (ap (λ (x : Recorded). x .rest) a)
+read-recording-answers t bytes r (notStored n a) =
+    wrongTable n (ap (λ (x : Recorded). numberOf (x .outcome)) a) (ap (λ (x : Recorded). x .rest) a) (ap (λ (x : Recorded). x .table) a)
+
+-- ---- forgetting: 0, 7 or 9
+
+-- a table stores a content that meets the rules
+abbrev pub Stores : Table → Content → Type 0
+Stores t c = (meets c ≡ true) × (t ≡ storeTable c)
+
+pub data ForgetAnswer (t : Table) (k : ℕ) (r : Forgotten) : Type 0 where
+  -- 0: the key was held
+  done : (c : Content) → Stores t c → (e : Held) → find linkage k c ≡ some e → numberOf (r .outcome) ≡ 0 → ForgetAnswer t k r
+  -- 7: it was not, and everything is left as it was
+  notHeld : (c : Content) → Stores t c → find linkage k c ≡ none → numberOf (r .outcome) ≡ 7 → r .table ≡ t → ForgetAnswer t k r
+  -- 9: everything is left as it was
+  wrongTable : (Stored t → ⊥) → numberOf (r .outcome) ≡ 9 → r .table ≡ t → ForgetAnswer t k r
+
+-- forgetting what is not held changes nothing
+forget-unheld : (k : ℕ) (c : Content) → find linkage k c ≡ none → forget linkage k c ≡ c
+unfolding find forget
+forget-unheld k [] e = refl
+forget-unheld k (x ∷ c) e =
+    cases-bool (eqb k (x .key))
+    (λ s. none-some {a = x} e (rw s))
+    (λ s. rw s (ap (_∷_ x) (forget-unheld k c (rw s at e))))
+
+pub forget-key-answers : (t : Table) (k : ℕ) (r : Forgotten) → Forgets t k r → ForgetAnswer t k r
+unfolding forgottenAs forgetOutcome heldOr numberOf
+forget-key-answers t k r (stored c f p a) =
+    let n = ap (λ (x : Forgotten). numberOf (x .outcome)) a in
+    cases-option (find linkage k c)
+    (λ e. notHeld c (f, p) e (n ∙ ap (λ (o : Option Held). numberOf (heldOr o Done)) e)
+    (ap (λ (x : Forgotten). x .table) a ∙ ap storeTable (forget-unheld k c e) ∙ sym p))
+    (λ x e. done c (f, p) x e (n ∙ ap (λ (o : Option Held). numberOf (heldOr o Done)) e))
+forget-key-answers t k r (notStored n a) = wrongTable n (ap (λ (x : Forgotten). numberOf (x .outcome)) a) (ap (λ (x : Forgotten). x .table) a)
+
+-- ---- copying out: 0, 7, 8, 9 or 11
+
+-- both buffers are as they were, and the answer says nothing but its outcome
+pub record Uncopied (ns ks : List ℕ) (r : Copied) (ms js : List ℕ) : Type 0 where
+  pub numbers : ms ≡ ns
+  pub kinds : js ≡ ks
+  pub answer : r ≡ record { outcome = r .outcome; key = 0; on = false; named = 0; count = 0 }
+
+pub data CopyAnswer (t : Table) (k : ℕ) (ns ks : List ℕ) (r : Copied) (ms js : List ℕ) : Type 0 where
+  -- 0: the key is held, its set shown, and both buffers are long enough
+  done : (c : Content) → Stores t c → (e : Held) → find linkage k c ≡ some e → (l : IdSet) → e .shown ≡ some l
+      → length (l .items) ≤ length ns → length (l .items) ≤ length ks → numberOf (r .outcome) ≡ 0 → CopyAnswer t k ns ks r ms js
+  -- 7, 11, 8 and 9: nothing is written
+  notHeld : (c : Content) → Stores t c → find linkage k c ≡ none → numberOf (r .outcome) ≡ 7 → Uncopied ns ks r ms js → CopyAnswer t k ns ks r ms js
+  notShown : (c : Content) → Stores t c → (e : Held) → find linkage k c ≡ some e → e .shown ≡ none
+      → numberOf (r .outcome) ≡ 11 → Uncopied ns ks r ms js → CopyAnswer t k ns ks r ms js
+  shortBuffer : (c : Content) → Stores t c → (e : Held) → find linkage k c ≡ some e → (l : IdSet) → e .shown ≡ some l
+      → (length ns < length (l .items)) ⊎ (length ks < length (l .items)) → numberOf (r .outcome) ≡ 8 → Uncopied ns ks r ms js → CopyAnswer t k ns ks r ms js
+  wrongTable : (Stored t → ⊥) → numberOf (r .outcome) ≡ 9 → Uncopied ns ks r ms js → CopyAnswer t k ns ks r ms js
+
+uncopied : (o : Outcome) (ns ks : List ℕ) (r : Copied) (ms js : List ℕ) → copiedAs r ms js ≡ notCopied o ns ks
+    → (numberOf (r .outcome) ≡ numberOf o) × Uncopied ns ks r ms js
+unfolding copiedAs notCopied
+uncopied o ns ks r ms js e =
+    let key = ap (λ (x : Outcomes.Copied). x .key) e in
+    let on = ap (λ (x : Outcomes.Copied). x .on) e in
+    let named = ap (λ (x : Outcomes.Copied). x .named) e in
+    let count = ap (λ (x : Outcomes.Copied). x .count) e in (
+      ap (λ (x : Outcomes.Copied). numberOf (x .outcome)) e,
+      record {
+        numbers = ap (λ (x : Outcomes.Copied). x .numbers) e;
+        kinds = ap (λ (x : Outcomes.Copied). x .kinds) e;
+        answer = λ i. record { outcome = r .outcome; key = key i; on = on i; named = named i; count = count i };
+      },
+    )
+
+module _ (t : Table) (k : ℕ) (ns ks : List ℕ) (r : Copied) (ms js : List ℕ) where
+  -- a shown set, with room in both buffers or not
+  copied-set : (c : Content) → Stores t c → (e : Held) → find linkage k c ≡ some e → (l : IdSet) → e .shown ≡ some l
+      → copiedAs r ms js ≡ copySet e (some l) ns ks → CopyAnswer t k ns ks r ms js
+  unfolding copySet numberOf copiedAs
+  copied-set c s e h l g a =
+      cases-bool (ltb (length ns) (length (l .items)) || ltb (length ks) (length (l .items)))
+      (λ b. let u = uncopied ShortBuffer ns ks r ms js (rw b at a) in
+      shortBuffer c s e h l g
+      (or-cases (ltb (length ns) (length (l .items))) (ltb (length ks) (length (l .items))) b (λ x. inl (ltb-true _ _ x)) (λ x. inr (ltb-true _ _ x)))
+      (u .0) (u .1))
+      (λ b.
+      done c s e h l g (ltb-false _ _ (or-false-left (ltb (length ns) (length (l .items))) (ltb (length ks) (length (l .items))) b))
+      (ltb-false _ _ (or-false-right (ltb (length ns) (length (l .items))) (ltb (length ks) (length (l .items))) b))
+      (ap (λ (y : Outcomes.Copied). numberOf (y .outcome)) (rw b at a)))
+
+  pub copy-out-answers : CopiesOut t k ns ks r ms js → CopyAnswer t k ns ks r ms js
+  unfolding copyOut copyHeld copySet numberOf
+  copy-out-answers (stored c f p a) =
+      cases-option (find linkage k c)
+      (λ h. let u = uncopied NotHeld ns ks r ms js (a ∙ ap (λ (o : Option Held). copyHeld o ns ks) h) in notHeld c (f, p) h (u .0) (u .1))
+      (λ e h.
+      let q : copiedAs r ms js ≡ copySet e (e .shown) ns ks = a ∙ ap (λ (o : Option Held). copyHeld o ns ks) h in
+      cases-option (e .shown)
+      (λ n. let u = uncopied NotShown ns ks r ms js (q ∙ ap (λ (o : Option IdSet). copySet e o ns ks) n) in notShown c (f, p) e h n (u .0) (u .1))
+      (λ l n. copied-set c (f, p) e h l n (q ∙ ap (λ (o : Option IdSet). copySet e o ns ks) n)))
+  copy-out-answers (notStored n a) = let u = uncopied WrongTable ns ks r ms js a in wrongTable n (u .0) (u .1)

@@ -1,0 +1,27 @@
+-- The contracts of the public functions that are given a table, each with a name, as their `ensures` have them.
+use Prim.Native.Nat.{ℕ}
+use mathlib.Core.Path.{_≡_}
+use mathlib.Core.List.{List}
+use Rattle.rules.specs.declared.Outcome.the-variants.{WrongTable}
+use Rattle.rules.specs.Outcomes.{readBlock, copyOut, notCopied}
+use Rattle.table.specs.declared.Table.{Table}
+use Rattle.table.specs.declared.Forgotten.{Forgotten}
+use Rattle.table.specs.declared.Copied.{Copied}
+use Rattle.table.specs.Stored.{Given}
+use Rattle.table.specs.Answers.{forgottenAs, copiedAs}
+use Rattle.reading.specs.declared.Answer.{Answer}
+use Rattle.reading.specs.declared.Recorded.{Recorded}
+use Rattle.reading.specs.Runs.{runAs, refusedTable, recordedAs, unrecorded}
+
+abbrev pub ReadsBlock : Table → List ℕ → Answer → Type 0
+ReadsBlock t fib r = Given t (λ c. r ≡ runAs (readBlock c fib)) (r ≡ refusedTable t)
+
+abbrev pub ReadsRecording : Table → List ℕ → Recorded → Type 0
+ReadsRecording t bytes r = Given t (λ c. r ≡ recordedAs c bytes) (r ≡ unrecorded t)
+
+abbrev pub Forgets : Table → ℕ → Forgotten → Type 0
+Forgets t k r = Given t (λ c. r ≡ forgottenAs k c) (r ≡ record { outcome = WrongTable; table = t })
+
+-- both buffers before, the answer, both buffers after
+abbrev pub CopiesOut : Table → ℕ → List ℕ → List ℕ → Copied → List ℕ → List ℕ → Type 0
+CopiesOut t k ns ks r ms js = Given t (λ c. copiedAs r ms js ≡ copyOut k c ns ks) (copiedAs r ms js ≡ notCopied WrongTable ns ks)

@@ -1,0 +1,57 @@
+-- A contract about a given table admits a single answer. In order: the general law (`given-single`); reading a block, a
+-- recording, forgetting, copying out with both buffers; a test.
+use Prim.Native.Nat.{ℕ}
+use mathlib.Core.Path.{_≡_, refl, sym, ap, _∙_}
+use mathlib.Core.Bool.{Bool, true, false}
+use mathlib.Core.List.{List}
+use Rattle.rules.specs.Collecting.{Content}
+use Rattle.rules.specs.Outcomes.{readBlock, copyOut}
+use Rattle.rules.specs.Outcomes as Outcomes
+use Rattle.lists.specs.Stored.{Tested}
+use Rattle.table.specs.declared.Table.{Table}
+use Rattle.table.specs.declared.Forgotten.{Forgotten}
+use Rattle.table.specs.declared.Copied.{Copied}
+use Rattle.table.specs.Stored.{Stored, Given, stored, notStored}
+use Rattle.table.specs.Answers.{forgottenAs, copiedAs}
+use Rattle.reading.specs.declared.Answer.{Answer}
+use Rattle.reading.specs.declared.Recorded.{Recorded}
+use Rattle.reading.specs.Runs.{runAs, recordedAs}
+use Rattle.promises.proofs.Contracts.{ReadsBlock, ReadsRecording, Forgets, CopiesOut}
+use Rattle.promises.proofs.Injective.{same-content}
+
+-- where an answer is what the content gives, or else one certain thing, two answers are the same
+pub given-single : {A : Type 0} (t : Table) (x y z : A) (F : Content → A) → Given t (λ c. x ≡ F c) (x ≡ z) → Given t (λ c. y ≡ F c) (y ≡ z) → x ≡ y
+unfolding Stored
+given-single t x y z F (stored c f p a) (stored d g q b) = a ∙ ap F (same-content t c d f g p q) ∙ sym b
+given-single t x y z F (stored c f p a) (notStored n b) = absurd (n (c, f, p))
+given-single t x y z F (notStored n a) (stored d g q b) = absurd (n (d, g, q))
+given-single t x y z F (notStored n a) (notStored m b) = a ∙ sym b
+
+pub read-block-single : (t : Table) (fib : List ℕ) (r q : Answer) → ReadsBlock t fib r → ReadsBlock t fib q → r ≡ q
+read-block-single t fib r q a b = given-single t r q _ (λ c. runAs (readBlock c fib)) a b
+
+pub read-recording-single : (t : Table) (bytes : List ℕ) (r q : Recorded) → ReadsRecording t bytes r → ReadsRecording t bytes q → r ≡ q
+read-recording-single t bytes r q a b = given-single t r q _ (λ c. recordedAs c bytes) a b
+
+pub forget-key-single : (t : Table) (k : ℕ) (r q : Forgotten) → Forgets t k r → Forgets t k q → r ≡ q
+forget-key-single t k r q a b = given-single t r q _ (forgottenAs k) a b
+
+-- an answer and both buffers, taken apart
+pub copied-apart : (r q : Copied) (ns ks ms js : List ℕ) → copiedAs r ns ks ≡ copiedAs q ms js → (r ≡ q) × (ns ≡ ms) × (ks ≡ js)
+unfolding copiedAs
+copied-apart r q ns ks ms js e = (
+  λ i. record { outcome = e i .outcome; key = e i .key; on = e i .on; named = e i .named; count = e i .count },
+  ap (λ (x : Outcomes.Copied). x .numbers) e,
+  ap (λ (x : Outcomes.Copied). x .kinds) e,
+)
+
+pub copy-out-single : (t : Table) (k : ℕ) (ns ks : List ℕ) (r q : Copied) (nr kr nq kq : List ℕ)
+    → CopiesOut t k ns ks r nr kr → CopiesOut t k ns ks q nq kq → (r ≡ q) × (nr ≡ nq) × (kr ≡ kq)
+copy-out-single t k ns ks r q nr kr nq kq a b =
+    copied-apart r q nr kr nq kq (given-single t (copiedAs r nr kr) (copiedAs q nq kq) _ (λ c. copyOut k c ns ks) a b)
+
+-- a test that is sound and complete, as that of the table rules
+pub tested-single : {P : Type 0} (a b : Bool) → Tested a P → Tested b P → a ≡ b
+tested-single true b v w = sym (w .complete (v .sound refl))
+tested-single false true v w = v .complete (w .sound refl)
+tested-single false false v w = refl
