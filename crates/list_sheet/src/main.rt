@@ -3,22 +3,14 @@
 // text are proved in crates sheet and text; here it is proved that every call is in order.
 use libc::STDERR_FILENO;
 use libc::STDIN_FILENO;
-use libc::STDOUT_FILENO;
 use rules::Outcome;
 use table::Table;
-
-// Writes the first n bytes of an output.
-fn emit(out: &[u8], n: usize) {
-    if n <= out.len() {
-        io::write_all(STDOUT_FILENO, &out[..n]);
-    }
-}
 
 // Prints the listing of a table.
 fn print(table: Table) {
     let mut out = [0u8; 49152];
     let written = text::write_listing(table, 0, &mut out);
-    emit(&out, written.size);
+    console::emit(&out, written.size);
 }
 
 // A sheet has at most 24,801 bytes: with room for one more, a longer input is refused as it should be.

@@ -3,22 +3,14 @@
 // proved in crates sheet and air; here it is proved that every call is in order.
 use libc::STDERR_FILENO;
 use libc::STDIN_FILENO;
-use libc::STDOUT_FILENO;
 use rules::Outcome;
 use table::Table;
-
-// Writes the first n bytes of an output.
-fn emit(out: &[u8], n: usize) {
-    if n <= out.len() {
-        io::write_all(STDOUT_FILENO, &out[..n]);
-    }
-}
 
 // Writes the blocks of a table: 131,072 bytes hold any table's.
 fn send(table: Table) {
     let mut out = [0u8; 131072];
     let written = air::write_air(table, &mut out);
-    emit(&out, written.size);
+    console::emit(&out, written.size);
 }
 
 // A sheet has at most 24,801 bytes: with room for one more, a longer input is refused as it should be.
