@@ -1,3 +1,4 @@
+-- The laws above specs/, in the order in which they build on each other, and what the contract promises.
 pub mod Lists
 pub mod Ranges
 pub mod Sets

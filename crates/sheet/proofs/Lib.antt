@@ -1,10 +1,12 @@
-pub mod Numbers
+-- The laws that the proofs of the functions lean on: writing (Groups, Shown, Writes), loading (Numbers, Tests, Heads, Stores,
+-- Pairs, Sets, Loads), and what the two promise (Contents, Promises).
 pub mod Groups
+pub mod Shown
+pub mod Writes
+pub mod Numbers
 pub mod Tests
 pub mod Heads
 pub mod Stores
-pub mod Shown
-pub mod Writes
 pub mod Pairs
 pub mod Sets
 pub mod Loads

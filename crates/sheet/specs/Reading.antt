@@ -24,10 +24,11 @@ unfoldable pub numberAs : Option (Read ℕ) → ReadNumber
 numberAs none = number.Wrong
 numberAs (some r) = number.At (r .value) (r .next)
 
--- what stands in front of a set's pairs
+-- what stands in front of a set's pairs, field by field
 unfoldable pub headOf : Head → SetHead
 headOf h = record { key = h .key; on = h .on; named = h .named; count = h .count }
 
+-- and that with the place after it
 unfoldable pub headAs : Option (Read Head) → ReadHead
 headAs none = head.Wrong
 headAs (some r) = head.At (headOf (r .value)) (r .next)
@@ -37,26 +38,29 @@ unfoldable pub pairRead : List Pair → ReadPair → Option (Read (List Pair))
 pairRead acc item.Wrong = none
 pairRead acc (item.At k n next) = some (record { value = acc ++ pair k n ∷ []; next = next })
 
--- pairs, stored with these named kinds
+-- no list: no pair and place 0
 unfoldable pub noList : ReadList
 noList = record { ok = false; list = emptyList; next = 0 }
 
+-- pairs, stored as a list with these named kinds
 unfoldable pub listAs : ℕ → Option (Read (List Pair)) → ReadList
 listAs named none = noList
 listAs named (some r) = record { ok = true; list = storeList (record { items = r .value; named = named }); next = r .next }
 
--- a set
+-- no set
 unfoldable pub noSet : ReadSet
 noSet = record { ok = false; key = 0; on = false; list = emptyList; next = 0 }
 
+-- a set: its key, on or off, and its list as it is stored
 unfoldable pub setAs : Option (Read Shown) → ReadSet
 setAs none = noSet
 setAs (some r) = record { ok = true; key = r .value .key; on = r .value .on; list = storeList (r .value .set); next = r .next }
 
--- sets, stored as a table
+-- no sets: the empty table
 unfoldable pub noSets : ReadSets
 noSets = record { ok = false; table = storeTable []; next = 0 }
 
+-- sets, stored as a table
 unfoldable pub setsAs : Option (Read Content) → ReadSets
 setsAs none = noSets
 setsAs (some r) = record { ok = true; table = storeTable (r .value); next = r .next }
