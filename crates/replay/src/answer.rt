@@ -1,0 +1,225 @@
+// The words of an answer, each at a place of a buffer and with a blank before it, and the place after it.
+use lists::IdList;
+use lists::least;
+use out::put;
+use out::put_bytes;
+use out::put_decimal;
+use out::put_hex;
+use reading::Notes;
+use rules::Note;
+use rules::Outcome;
+use table::Table;
+ghost use mathlib.Core.Path.{_≡_};
+ghost use Rattle.rules.specs.Outcomes.{numberOf, noteNumber};
+
+// An outcome's number.
+pub fn outcome_number(outcome: Outcome) -> usize
+    ensures { λ r. ⌜ r ≡ numberOf outcome ⌝ }
+{
+    match outcome {
+        Outcome::Done => 0,
+        Outcome::NotABlock => 1,
+        Outcome::CheckFails => 2,
+        Outcome::WrongFig => 3,
+        Outcome::WrongField => 4,
+        Outcome::WrongValue => 5,
+        Outcome::EmptyStart => 6,
+        Outcome::NotHeld => 7,
+        Outcome::ShortBuffer => 8,
+        Outcome::WrongTable => 9,
+        Outcome::NotASheet => 10,
+        Outcome::NotShown => 11,
+    }
+}
+
+// A note's number.
+pub fn note_number(note: Note) -> usize
+    ensures { λ r. ⌜ r ≡ noteNumber note ⌝ }
+{
+    match note {
+        Note::Opened => 1,
+        Note::ShownAndOpened => 2,
+        Note::Added => 3,
+        Note::NoOpenList => 4,
+        Note::Full => 5,
+        Note::TooLong => 6,
+        Note::StateOnly => 7,
+        Note::UnknownKey => 8,
+    }
+}
+
+// A line of one letter at the front of a buffer.
+pub fn put_letter(out: &mut [u8], letter: u8) -> usize {
+    let p = put(out, 0, letter);
+    put(out, p, 10)
+}
+
+// A letter and a number at the front of a buffer, without the line's end.
+pub fn put_head(out: &mut [u8], letter: u8, number: usize) -> usize {
+    let p = put(out, 0, letter);
+    put_number(out, p, number)
+}
+
+// A line of a letter and an outcome's number.
+pub fn put_outcome(out: &mut [u8], letter: u8, outcome: Outcome) -> usize {
+    let p = put_head(out, letter, outcome_number(outcome));
+    put(out, p, 10)
+}
+
+// A number in decimal.
+pub fn put_number(out: &mut [u8], at: usize, number: usize) -> usize {
+    let p = put(out, at, 32);
+    put_decimal(out, p, number)
+}
+
+// The notes' numbers.
+pub fn put_notes(out: &mut [u8], at: usize, notes: Notes) -> usize {
+    let end = least(notes.count, 14);
+    let mut p = at;
+    let mut i = 0;
+    while i < end {
+        let noted = notes.notes[i];
+        let note = noted.note;
+        p = put_number(out, p, note_number(note));
+        i += 1;
+    }
+    p
+}
+
+// How many hexadecimal digits a key is printed with: four, and as many as needed above FFFF.
+fn key_digits(key: u32) -> usize {
+    if key < 65536 {
+        4
+    } else if key < 1048576 {
+        5
+    } else if key < 16777216 {
+        6
+    } else if key < 268435456 {
+        7
+    } else {
+        8
+    }
+}
+
+// A key.
+pub fn put_key(out: &mut [u8], at: usize, key: u32) -> usize {
+    put_hex(out, at, key_digits(key), key)
+}
+
+// The named kinds and identifiers of a key's set or list, or a dash where there is none.
+fn put_list(out: &mut [u8], at: usize, key: u32, list: IdList) -> usize {
+    let len = list.len;
+    if len == 0 {
+        return put_bytes(out, at, b" -");
+    }
+    let p = put_number(out, at, list.named as usize);
+    text::put_pairs(out, p, key, &list.numbers, &list.kinds, len)
+}
+
+// The line of a held key.
+fn put_entry(out: &mut [u8], at: usize, key: u32, on: bool, shown: IdList, draft: IdList) -> usize {
+    let p = put_key(out, at, key);
+    let q = text::put_state(out, p, on);
+    let r = put_bytes(out, q, b" shown");
+    let s = put_list(out, r, key, shown);
+    let t = put_bytes(out, s, b" open");
+    let u = put_list(out, t, key, draft);
+    put(out, u, 10)
+}
+
+// The lines of the held keys, after the table's first line.
+fn put_entries(out: &mut [u8], at: usize, table: Table) -> usize {
+    let end = least(table.count, 32);
+    let mut p = at;
+    let mut i = 0;
+    while i < end {
+        let shown = table.shown[i];
+        let draft = table.draft[i];
+        p = put_entry(out, p, table.keys[i], table.on[i], shown, draft);
+        i += 1;
+    }
+    p
+}
+
+// A whole table, or its outcome 9.
+pub fn put_table(out: &mut [u8], table: Table) -> usize {
+    if !table.meets() {
+        return put_outcome(out, b't', Outcome::WrongTable);
+    }
+    let p = put_head(out, b't', table.count);
+    let q = put(out, p, 10);
+    put_entries(out, q, table)
+}
+
+// A byte in hexadecimal.
+fn put_byte(out: &mut [u8], at: usize, byte: u8) -> usize {
+    put_hex(out, at, 2, byte as u32)
+}
+
+// Bytes in hexadecimal, the first `size` of these.
+fn put_digits(out: &mut [u8], at: usize, bytes: &[u8], size: usize) -> usize {
+    let end = least(size, bytes.len());
+    let mut p = at;
+    let mut i = 0;
+    while i < end {
+        p = put_byte(out, p, bytes[i]);
+        i += 1;
+    }
+    p
+}
+
+// What was written into a buffer: its first bytes, or a dash for none; nothing after another outcome
+// than 0.
+pub fn put_output(out: &mut [u8], at: usize, outcome: Outcome, bytes: &[u8], size: usize) -> usize {
+    if outcome_number(outcome) != 0 {
+        return at;
+    }
+    if size == 0 {
+        return put_bytes(out, at, b" -");
+    }
+    let p = put(out, at, 32);
+    put_digits(out, p, bytes, size)
+}
+
+// The first place of a buffer that must stay unchanged: the one past what was written, or the first
+// after another outcome than 0.
+pub fn kept_from(outcome: Outcome, size: usize) -> usize {
+    if outcome_number(outcome) == 0 {
+        size
+    } else {
+        0
+    }
+}
+
+// The last word of a line: whether what must stay unchanged was kept.
+pub fn put_kept(out: &mut [u8], at: usize, kept: bool) -> usize {
+    if kept {
+        put_bytes(out, at, b" kept\n")
+    } else {
+        put_bytes(out, at, b" changed\n")
+    }
+}
+
+// Whether every number from a place on is the filling.
+pub fn is_kept_u32(numbers: &[u32], from: usize) -> bool {
+    let mut i = from;
+    while i < numbers.len() {
+        if numbers[i] != 0xAAAAAAAA {
+            return false;
+        }
+        i += 1;
+    }
+    true
+}
+
+// The same for bytes.
+pub fn is_kept_u8(bytes: &[u8], from: usize) -> bool {
+    let mut i = from;
+    while i < bytes.len() {
+        if bytes[i] != 0xAA {
+            return false;
+        }
+        i += 1;
+    }
+    true
+}

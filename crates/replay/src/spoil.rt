@@ -1,0 +1,229 @@
+// The sixteen ways to spoil a table, for testing outcome 9. Each is an assignment on the stored form, on
+// the first place that has what the way needs.
+use lists::IdList;
+use table::Table;
+ghost use Prim.Native.Nat.{_<_};
+
+// Whether the table had what the way needs, and the table with the assignment made.
+pub struct Spoilt {
+    pub done: bool,
+    pub table: Table,
+}
+
+// Ways 1 to 6 need only enough entries.
+fn applies(way: usize, count: usize) -> bool {
+    if way == 1 || way == 3 {
+        2 <= count
+    } else if way == 2 {
+        true
+    } else if way == 4 {
+        count != 0 && count <= 32
+    } else if way == 5 {
+        1 <= count
+    } else if way == 6 {
+        count < 32
+    } else {
+        false
+    }
+}
+
+// The place before a count's end, among this many places.
+fn place_before(count: usize, most: usize) -> usize
+    requires { ⌜ 0 < most ⌝ }
+    ensures { λ r. ⌜ r < most ⌝ }
+{
+    if count == 0 {
+        return 0;
+    }
+    if most < count {
+        return 0;
+    }
+    count - 1
+}
+
+// 1: entries 0 and 1 change places.
+fn swapped(table: Table) -> Table {
+    let mut t = table;
+    t.keys[0] = table.keys[1];
+    t.keys[1] = table.keys[0];
+    t.on[0] = table.on[1];
+    t.on[1] = table.on[0];
+    let shown0 = table.shown[0];
+    let shown1 = table.shown[1];
+    t.shown[0] = shown1;
+    t.shown[1] = shown0;
+    let draft0 = table.draft[0];
+    let draft1 = table.draft[1];
+    t.draft[0] = draft1;
+    t.draft[1] = draft0;
+    t
+}
+
+// Ways 1 to 6, where they apply: 2 more entries than places, 3 a key twice, 4 a key of 65,536, 5 a key
+// with LSN 0, 6 something in an unused entry.
+fn spoil_entries(table: Table, way: usize) -> Table {
+    if way == 1 {
+        return swapped(table);
+    }
+    let mut t = table;
+    let count = table.count;
+    if way == 2 {
+        t.count = 33;
+    } else if way == 3 {
+        t.keys[1] = table.keys[0];
+    } else if way == 4 {
+        let last = place_before(count, 32);
+        t.keys[last] = 65536;
+    } else if way == 5 {
+        t.keys[0] = table.keys[0] - table.keys[0] % 4096;
+    } else if count < 32 {
+        t.on[count] = true;
+    }
+    t
+}
+
+// Whether the list has an RDS code or a DRM or AMSS identifier.
+fn has_other(list: IdList) -> bool {
+    let len = list.len;
+    if text::has_kind(1, &list.numbers, &list.kinds, len) {
+        return true;
+    }
+    text::has_kind(3, &list.numbers, &list.kinds, len)
+}
+
+// Whether a key's set, or open list in way 16, has what one of the ways 7 to 16 needs.
+fn is_needed(way: usize, key: u32, list: IdList) -> bool {
+    let len = list.len;
+    if len == 0 || 128 < len {
+        return false;
+    }
+    if way == 8 {
+        len < 128
+    } else if way == 9 || way == 16 {
+        2 <= len
+    } else if way == 11 {
+        key / 16384 % 2 == 0
+    } else if way == 13 {
+        has_other(list)
+    } else if way == 15 {
+        key / 16384 % 2 == 1
+    } else {
+        true
+    }
+}
+
+// The first place that has it, or 32.
+fn first_place(keys: [u32; 32], lists: [IdList; 32], way: usize) -> usize {
+    let mut i = 0;
+    while i < 32 {
+        let list = lists[i];
+        if is_needed(way, keys[i], list) {
+            return i;
+        }
+        i += 1;
+    }
+    i
+}
+
+// The ways 8 to 12 on a list that has what they need, in its places: 8 something past its end, 9 and 16
+// a pair twice, 10 an RDS code first, 11 a number beyond the key's width, 12 a kind of 2.
+fn spoil_places(way: usize, key: u32, list: IdList) -> IdList {
+    let mut l = list;
+    let len = list.len;
+    if way == 8 {
+        if len < 128 {
+            l.numbers[len] = 1;
+        }
+    } else if way == 10 {
+        l.kinds[0] = 1;
+        l.named = list.named | 1;
+    } else if way == 11 {
+        l.numbers[0] = if key / 4096 % 2 == 1 { 16777216 } else { 65536 };
+    } else if way == 12 {
+        let last = place_before(len, 128);
+        l.kinds[last] = 2;
+    } else {
+        l.numbers[1] = list.numbers[0];
+        l.kinds[1] = list.kinds[0];
+    }
+    l
+}
+
+// The ways 7 to 16 on such a list: 7 a list of 129, 13 a kind that is present and not named, 14 named
+// kinds of 4, 15 P/D 1 with a named kind.
+fn spoil_list(way: usize, key: u32, list: IdList) -> IdList {
+    let mut l = list;
+    if way == 7 {
+        l.len = 129;
+    } else if way == 13 {
+        l.named = 0;
+    } else if way == 14 {
+        l.named = list.named | 4;
+    } else if way == 15 {
+        l.named = 1;
+    } else {
+        return spoil_places(way, key, list);
+    }
+    l
+}
+
+// Whether a list had what the way needs, and the lists with the assignment made.
+struct Lists {
+    done: bool,
+    lists: [IdList; 32],
+}
+
+// The first of these lists that has what one of the ways 7 to 16 needs, spoiled so.
+fn spoil_first(keys: [u32; 32], lists: [IdList; 32], way: usize) -> Lists {
+    let i = first_place(keys, lists, way);
+    if 32 <= i {
+        return Lists { done: false, lists };
+    }
+    let mut next = lists;
+    let list = lists[i];
+    next[i] = spoil_list(way, keys[i], list);
+    Lists {
+        done: true,
+        lists: next,
+    }
+}
+
+// A table spoiled in one of the ways 7 to 16: its open lists in way 16, else its shown sets.
+fn spoil_lists(table: Table, way: usize) -> Spoilt {
+    let mut t = table;
+    let keys = table.keys;
+    if way == 16 {
+        let drafts = table.draft;
+        let spoilt = spoil_first(keys, drafts, way);
+        let left = spoilt.lists;
+        t.draft = left;
+        Spoilt {
+            done: spoilt.done,
+            table: t,
+        }
+    } else {
+        let shown = table.shown;
+        let spoilt = spoil_first(keys, shown, way);
+        let left = spoilt.lists;
+        t.shown = left;
+        Spoilt {
+            done: spoilt.done,
+            table: t,
+        }
+    }
+}
+
+// A table spoiled in one of the ways 1 to 16.
+pub fn spoil(table: Table, way: usize) -> Spoilt {
+    if 7 <= way {
+        return spoil_lists(table, way);
+    }
+    if !applies(way, table.count) {
+        return Spoilt { done: false, table };
+    }
+    let t = spoil_entries(table, way);
+    Spoilt {
+        done: true,
+        table: t,
+    }
+}
