@@ -1,5 +1,5 @@
 -- A contract about a given table admits a single answer. In order: the general law (`given-single`); reading a block, a
--- recording, forgetting, copying out with both buffers; a test.
+-- recording, forgetting, copying out with both buffers, the listing with its buffer; a test.
 use Prim.Native.Nat.{ℕ}
 use mathlib.Core.Path.{_≡_, refl, sym, ap, _∙_}
 use mathlib.Core.Bool.{Bool, true, false}
@@ -7,6 +7,9 @@ use mathlib.Core.List.{List}
 use Rattle.rules.specs.Collecting.{Content}
 use Rattle.rules.specs.Outcomes.{readBlock, copyOut}
 use Rattle.rules.specs.Outcomes as Outcomes
+use Rattle.rules.specs.Air.{writtenTo}
+use Rattle.rules.specs.Air as Air
+use Rattle.rules.specs.Listing.{listing}
 use Rattle.lists.specs.Stored.{Tested}
 use Rattle.table.specs.declared.Table.{Table}
 use Rattle.table.specs.declared.Forgotten.{Forgotten}
@@ -16,7 +19,9 @@ use Rattle.table.specs.Answers.{forgottenAs, copiedAs}
 use Rattle.reading.specs.declared.Answer.{Answer}
 use Rattle.reading.specs.declared.Recorded.{Recorded}
 use Rattle.reading.specs.Runs.{runAs, recordedAs}
-use Rattle.promises.proofs.Contracts.{ReadsBlock, ReadsRecording, Forgets, CopiesOut}
+use Rattle.out.specs.declared.Written.{Written}
+use Rattle.out.specs.Answer.{writtenAs}
+use Rattle.promises.proofs.Contracts.{ReadsBlock, ReadsRecording, Forgets, CopiesOut, WritesListing}
 use Rattle.promises.proofs.Injective.{same-content}
 
 -- where an answer is what the content gives, or else one certain thing, two answers are the same
@@ -49,6 +54,16 @@ pub copy-out-single : (t : Table) (k : ℕ) (ns ks : List ℕ) (r q : Copied) (n
     → CopiesOut t k ns ks r nr kr → CopiesOut t k ns ks q nq kq → (r ≡ q) × (nr ≡ nq) × (kr ≡ kq)
 copy-out-single t k ns ks r q nr kr nq kq a b =
     copied-apart r q nr kr nq kq (given-single t (copiedAs r nr kr) (copiedAs q nq kq) _ (λ c. copyOut k c ns ks) a b)
+
+-- an answer and its buffer, taken apart
+written-apart : (r q : Written) (a b : List ℕ) → writtenAs r a ≡ writtenAs q b → (r ≡ q) × (a ≡ b)
+unfolding writtenAs
+written-apart r q a b e = (λ i. record { outcome = e i .outcome; size = e i .size }, ap (λ (w : Air.Written). w .buffer) e)
+
+pub write-listing-single : (t : Table) (over : ℕ) (old : List ℕ) (r q : Written) (new other : List ℕ)
+    → WritesListing t over old r new → WritesListing t over old q other → (r ≡ q) × (new ≡ other)
+write-listing-single t over old r q new other a b =
+    written-apart r q new other (given-single t (writtenAs r new) (writtenAs q other) _ (λ c. writtenTo (listing c over) old) a b)
 
 -- a test that is sound and complete, as that of the table rules
 pub tested-single : {P : Type 0} (a b : Bool) → Tested a P → Tested b P → a ≡ b
