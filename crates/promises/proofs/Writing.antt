@@ -1,23 +1,28 @@
 -- What writes an output of a table into a lent buffer has a numbered outcome, and every refusal leaves the buffer as it was
--- (document 01, demand 1): one law over the output, and the listing by it.
+-- (document 01, demand 1): one law over the output; by it the listing, the sheet and the blocks for air. Last, loading a sheet.
 use Prim.Native.Nat.{ℕ, _≤_, _<_}
 use mathlib.Core.Path.{_≡_, ap, _∙_}
 use mathlib.Core.Bool.{true}
-use mathlib.Core.List.{List, _++_}
+use mathlib.Core.List.{List, [], _++_}
 use lib.ListN.{length, drop}
 use lib.Dec.{ltb}
 use borrow.Author.Tests.{ltb-true, ltb-false}
 use Rattle.rules.specs.declared.Outcome.the-variants.{Done, ShortBuffer, WrongTable}
 use Rattle.rules.specs.Collecting.{Content, meets}
 use Rattle.rules.specs.Outcomes.{numberOf, overwritten}
-use Rattle.rules.specs.Air.{writtenTo}
+use Rattle.rules.specs.Air.{air, writtenTo}
 use Rattle.rules.specs.Air as Air
+use Rattle.rules.specs.Sheet.{sheet, justShown, Load, accepted, notASheet}
 use Rattle.rules.specs.Listing.{listing}
 use Rattle.rules.proofs.Basics.{cases-bool}
 use Rattle.table.specs.declared.Table.{Table}
 use Rattle.table.specs.Stored.{storeTable, Stored, Given, stored, notStored}
 use Rattle.out.specs.declared.Written.{Written}
 use Rattle.out.specs.Answer.{writtenAs}
+use Rattle.sheet.specs.declared.Loaded.{Loaded}
+use Rattle.sheet.specs.Writing.{Writes, notWritten}
+use Rattle.sheet.specs.Loading.{Loads}
+use Rattle.air.proofs.Output.{WritesAir}
 use Rattle.promises.proofs.Contracts.{WritesListing}
 
 module _ (F : Content → List ℕ) (t : Table) (old : List ℕ) (r : Written) (new : List ℕ) where
@@ -47,3 +52,24 @@ module _ (F : Content → List ℕ) (t : Table) (old : List ℕ) (r : Written) (
 pub write-listing-answers : (t : Table) (over : ℕ) (old : List ℕ) (r : Written) (new : List ℕ)
     → WritesListing t over old r new → WriteAnswer (λ c. listing c over) t old r new
 write-listing-answers t over old r new w = write-answers (λ c. listing c over) t old r new w
+
+pub write-sheet-answers : (t : Table) (old : List ℕ) (r : Written) (new : List ℕ) → Writes t old r new → WriteAnswer sheet t old r new
+unfolding notWritten
+write-sheet-answers t old r new w = write-answers sheet t old r new w
+
+pub write-air-answers : (t : Table) (old : List ℕ) (r : Written) (new : List ℕ) → WritesAir t old r new → WriteAnswer air t old r new
+write-air-answers t old r new w = write-answers air t old r new w
+
+pub data LoadAnswer (bytes : List ℕ) (r : Loaded) : Type 0 where
+  -- 0: some table writes these bytes; what it shows is held
+  loaded : (c : Content) → meets c ≡ true → sheet c ≡ bytes → numberOf (r .outcome) ≡ 0 → r .table ≡ storeTable (justShown c) → LoadAnswer bytes r
+  -- 10: none does; the table is empty
+  noSheet : ((c : Content) → meets c ≡ true → sheet c ≡ bytes → ⊥) → numberOf (r .outcome) ≡ 10 → r .table ≡ storeTable [] → LoadAnswer bytes r
+
+load-by : (bytes : List ℕ) (r : Loaded) (left : Content) → Load bytes (r .outcome) left → r .table ≡ storeTable left → LoadAnswer bytes r
+unfolding numberOf
+load-by bytes r left (accepted c m s o l) e = loaded c m s (ap numberOf o) (e ∙ ap storeTable l)
+load-by bytes r left (notASheet n o l) e = noSheet n (ap numberOf o) (e ∙ ap storeTable l)
+
+pub load-sheet-answers : (bytes : List ℕ) (r : Loaded) → Loads bytes r → LoadAnswer bytes r
+load-sheet-answers bytes r l = load-by bytes r (l .left) (l .load) (l .stored)
