@@ -1,82 +1,10 @@
--- One stored form stores one content. In order: what an array stores; a list; entries; a table (`store-injective`).
-use Prim.Native.Nat.{ℕ, _-_}
-use native.Mathlib.Omega.{arith}
-use mathlib.Core.Path.{_≡_, refl, sym, ap, ap₂, _∙_}
-use mathlib.Core.Bool.{true, false}
-use mathlib.Core.List.{List, [], _∷_, map}
-use mathlib.Core.Option.{Option, none, some}
-use lib.ListN.{length, take, replicate, length-map}
-use lib.Seq.{take-append-seam}
-use Rattle.rules.specs.Collecting.{IdSet, Held, Content, ifThere, entryMeets, entriesMeet, meets}
-use Rattle.rules.proofs.Basics.{and-left, and-right}
-use Rattle.rules.proofs.SheetBasics.{same-head, same-tail}
-use Rattle.lists.specs.declared.IdList.{IdList}
-use Rattle.lists.specs.Stored.{padded, emptyList, storeList, storeMaybe, pairsIn}
-use Rattle.lists.proofs.StoredLaws.{pairs-in-store, set-facts, not-none}
+-- A table stores one content.
+use mathlib.Core.Path.{_≡_, sym, _∙_}
+use mathlib.Core.Bool.{true}
+use Rattle.rules.specs.Collecting.{Content, meets}
 use Rattle.table.specs.declared.Table.{Table}
-use Rattle.table.specs.Stored.{keyIn, onIn, shownIn, draftIn, storeTable}
-use Rattle.table.proofs.TableLaws.{meets-facts, entry-facts}
+use Rattle.table.specs.Stored.{storeTable}
+use Rattle.sheet.proofs.Contents.{store-injective}
 
--- ---- an array
-
-padded-same : {A : Type 0} (n : ℕ) (d : A) (xs ys : List A) → length xs ≡ length ys → padded n d xs ≡ padded n d ys → xs ≡ ys
-unfolding padded
-padded-same n d xs ys l e =
-    sym (take-append-seam xs (replicate (n - length xs) d))
-    ∙ ap₂ take l e
-    ∙ take-append-seam ys (replicate (n - length ys) d)
-
--- ---- a list
-
-list-same : (l m : IdSet) → storeList l ≡ storeList m → l ≡ m
-unfolding storeList
-list-same l m e =
-    let ps = sym (pairs-in-store l) ∙ ap (λ (x : IdList). pairsIn (x .kinds) (x .numbers) (x .len)) e ∙ pairs-in-store m in
-    let ns = ap (λ (x : IdList). x .named) e in
-    λ i. record { items = ps i; named = ns i }
-
-maybe-same : (k j : ℕ) (o p : Option IdSet) → ifThere k o ≡ true → ifThere j p ≡ true → storeMaybe o ≡ storeMaybe p → o ≡ p
-unfolding storeMaybe storeList emptyList ifThere
-maybe-same k j none none f g e = refl
-maybe-same k j none (some m) f g e = absurd (not-none (m .items) (set-facts j m g .first) (sym (ap (λ (x : IdList). x .len) e)))
-maybe-same k j (some l) none f g e = absurd (not-none (l .items) (set-facts k l f .first) (ap (λ (x : IdList). x .len) e))
-maybe-same k j (some l) (some m) f g e = ap (λ (x : IdSet). some x) (list-same l m e)
-
--- ---- entries
-
-entry-same : (x y : Held) → entryMeets x ≡ true → entryMeets y ≡ true
-    → keyIn x ≡ keyIn y → onIn x ≡ onIn y → shownIn x ≡ shownIn y → draftIn x ≡ draftIn y → x ≡ y
-unfolding keyIn onIn shownIn draftIn
-entry-same x y f g k o s d =
-    let a = entry-facts x f in
-    let b = entry-facts y g in
-    let ss = maybe-same (x .key) (y .key) (x .shown) (y .shown) (a .shown) (b .shown) s in
-    let ds = maybe-same (x .key) (y .key) (x .draft) (y .draft) (a .draft) (b .draft) d in
-    λ i. record { key = k i; state = o i; shown = ss i; draft = ds i }
-
-entries-same : (c d : Content) → entriesMeet c ≡ true → entriesMeet d ≡ true → length c ≡ length d
-    → map keyIn c ≡ map keyIn d → map onIn c ≡ map onIn d → map shownIn c ≡ map shownIn d → map draftIn c ≡ map draftIn d → c ≡ d
-unfolding entriesMeet
-entries-same [] [] f g l k o s e = refl
-entries-same [] (y ∷ d) f g l k o s e = absurd (omega arith)
-entries-same (x ∷ c) [] f g l k o s e = absurd (omega arith)
-entries-same (x ∷ c) (y ∷ d) f g l k o s e =
-    ap₂ _∷_
-    (entry-same x y (and-left (entryMeets x) (entriesMeet c) f) (and-left (entryMeets y) (entriesMeet d) g) (same-head k) (same-head o) (same-head s) (same-head e))
-    (entries-same c d (and-right (entryMeets x) (entriesMeet c) f) (and-right (entryMeets y) (entriesMeet d) g) (omega arith) (same-tail k) (same-tail o) (same-tail s) (same-tail e))
-
--- ---- a table
-
-pub store-injective : (c d : Content) → meets c ≡ true → meets d ≡ true → storeTable c ≡ storeTable d → c ≡ d
-unfolding storeTable
-store-injective c d f g e =
-    let l : length c ≡ length d = ap (λ (t : Table). t .count) e in
-    entries-same c d (meets-facts c f .entries) (meets-facts d g .entries) l
-    (padded-same 32 0 (map keyIn c) (map keyIn d) (length-map c keyIn ∙ l ∙ sym (length-map d keyIn)) (ap (λ (t : Table). t .keys) e))
-    (padded-same 32 false (map onIn c) (map onIn d) (length-map c onIn ∙ l ∙ sym (length-map d onIn)) (ap (λ (t : Table). t .on) e))
-    (padded-same 32 emptyList (map shownIn c) (map shownIn d) (length-map c shownIn ∙ l ∙ sym (length-map d shownIn)) (ap (λ (t : Table). t .shown) e))
-    (padded-same 32 emptyList (map draftIn c) (map draftIn d) (length-map c draftIn ∙ l ∙ sym (length-map d draftIn)) (ap (λ (t : Table). t .draft) e))
-
--- a table stores one content
 pub same-content : (t : Table) (c d : Content) → meets c ≡ true → meets d ≡ true → t ≡ storeTable c → t ≡ storeTable d → c ≡ d
 same-content t c d f g p q = store-injective c d f g (sym p ∙ q)
