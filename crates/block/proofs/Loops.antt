@@ -22,7 +22,7 @@ use Rattle.field.proofs.Laws.{fieldStepAt-means, wrong-value-means, empty-start
 use Rattle.block.specs.declared.Spots.{Spots}
 use Rattle.block.specs.declared.Pushed.{Pushed}
 use Rattle.block.specs.declared.Judged.{Judged}
-use Rattle.block.specs.Judged.{SpotIs, noSpots, Placed, JudgedAs}
+use Rattle.block.specs.Judged.{fieldOr, fieldIn, SpotIs, noSpots, Placed, JudgedAs}
 use Rattle.block.specs.Faults.{faultIn, faultOf, judgeFrom, fieldsIn, CanPush, Pushes, Concludes, JudgesFigs}
 use Rattle.block.proofs.Verdicts.{joined-none, joined-after, judge-after, judge-broken, faultOf-range, judgeFigsFrom, figs-first, figs-linking, figs-other, figs-none, figs-wrong}
 use Rattle.block.proofs.Placing.{placed-none, no-count, withSpot, placed-more, refuses-as}
@@ -123,17 +123,21 @@ module _ (fib : List ℕ) (start stop fault₀ : ℕ) (spots₀ : Spots) (fault 
     pub field-goes-on : stop - start - next < stop - start - at
     field-goes-on = omega (arith, stands)
 
-    spot : SpotIs fib (record { field = f; start = start; end = stop }) (meaning (body fib start stop) f)
+    field-is : f ≡ fieldIn (body fib start stop) at
+    unfolding fieldIn fieldOr
+    field-is = sym (ap fieldOr e)
+
+    spot : SpotIs fib (record { start = start; end = stop; place = at }) (meaning (body fib start stop) f)
     spot =
         record {
           ordered = omega (arith, so .within);
           inside = inside;
-          means = refl;
-          found = (at, next, e);
+          means = ap (meaning (body fib start stop)) (sym field-is);
+          found = (next, e ∙ ap (λ (g : Field). Found g next) field-is);
         }
 
     -- a field more
-    pub fields-next : FieldsSoFar fib start stop fault₀ spots₀ (min fault (faultIn f)) (withSpot spots (record { field = f; start = start; end = stop })) next
+    pub fields-next : FieldsSoFar fib start stop fault₀ spots₀ (min fault (faultIn f)) (withSpot spots (record { start = start; end = stop; place = at })) next
     fields-next =
         let range = faultOf-range (meaning (body fib start stop) f) in
         let same = fault-means (body fib start stop) f in

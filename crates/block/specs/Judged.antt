@@ -8,47 +8,58 @@ use Rattle.rules.specs.declared.Outcome.{Outcome}
 use Rattle.rules.specs.declared.Outcome.the-variants.{Done, NotABlock}
 use Rattle.rules.specs.Field.{Field as FieldOf}
 use Rattle.rules.specs.Outcomes.{Verdict, taken, refused, noBlock, verdict}
-use Rattle.field.specs.declared.FieldStep.the-variants.{Found}
+use Rattle.field.specs.declared.Field.{Field}
+use Rattle.field.specs.declared.FieldStep.{FieldStep}
+use Rattle.field.specs.declared.FieldStep.the-variants.{Found, End, Wrong}
 use Rattle.field.specs.FieldStep.{fieldStepAt, meaning}
 use Rattle.block.specs.declared.Spot.{Spot}
 use Rattle.block.specs.declared.Spots.{Spots}
 use Rattle.block.specs.declared.Judged.{Judged}
 
+-- a field with nothing in it
+abbrev pub nothing : Field
+nothing =
+    record {
+      cn = 0;
+      oe = 0;
+      pd = 0;
+      flag = 0;
+      la = 0;
+      hard = 0;
+      ils = 0;
+      lsn = 0;
+      rfu = 0;
+      qualifier = 0;
+      shorthand = 0;
+      count = 0;
+      from = 0;
+    }
+
+-- the field of a step, if it found one
+unfoldable pub fieldOr : FieldStep → Field
+fieldOr (Found f next) = f
+fieldOr End = nothing
+fieldOr Wrong = nothing
+
+-- the field that stands at a place of a body
+unfoldable pub fieldIn : List ℕ → ℕ → Field
+fieldIn body place = fieldOr (fieldStepAt body place)
+
 -- the bytes of a block that a spot's field stands in: its FIG's body
 abbrev pub bodyAt : List ℕ → Spot → List ℕ
 bodyAt fib s = take (s .end - s .start) (drop (s .start) fib)
 
--- a spot of a block says a field of the rules: its body lies in the block's data, the field was found at a place of that
+-- a spot of a block says a field of the rules: its body lies in the block's data, a field is found at its place of that
 -- body, and means that field there
 pub record SpotIs (fib : List ℕ) (s : Spot) (g : FieldOf) : Type 0 where
   pub ordered : s .start ≤ s .end
   pub inside : s .end ≤ 30
-  pub means : meaning (bodyAt fib s) (s .field) ≡ g
-  pub found : (place : ℕ) × (next : ℕ) × (fieldStepAt (bodyAt fib s) place ≡ Found (s .field) next)
+  pub means : meaning (bodyAt fib s) (fieldIn (bodyAt fib s) (s .place)) ≡ g
+  pub found : (next : ℕ) × (fieldStepAt (bodyAt fib s) (s .place) ≡ Found (fieldIn (bodyAt fib s) (s .place)) next)
 
 -- a spot with nothing in it, and spots that say no field
 abbrev pub noSpot : Spot
-noSpot =
-    record {
-      field =
-          record {
-            cn = 0;
-            oe = 0;
-            pd = 0;
-            flag = 0;
-            la = 0;
-            hard = 0;
-            ils = 0;
-            lsn = 0;
-            rfu = 0;
-            qualifier = 0;
-            shorthand = 0;
-            count = 0;
-            from = 0;
-          };
-      start = 0;
-      end = 0;
-    }
+noSpot = record { start = 0; end = 0; place = 0 }
 
 unfoldable pub noSpots : Spots
 noSpots = record { spots = replicate 14 noSpot; count = 0 }

@@ -4,7 +4,7 @@
 ghost use mathlib.Core.Path.{_≡_};
 ghost use Prim.Native.Nat.{min};
 ghost use lib.ListN.{length};
-ghost use Rattle.block.specs.Judged.{noSpots, Judges};
+ghost use Rattle.block.specs.Judged.{noSpots, nothing, fieldIn, Judges};
 ghost use Rattle.block.specs.Faults.{faultIn, JudgesFigs, Concludes, CanPush, Pushes};
 use field::Field;
 use field::FieldStep;
@@ -12,11 +12,12 @@ use figs::Cursor;
 use figs::FigStep;
 use rules::Outcome;
 
-// A field of a taken block, and the FIG body that it stands in: fib[start..end].
+// Where a field of a taken block stands: its FIG's body fib[start..end], and its place in that body. Three bytes, which are
+// copied with the block's verdict; the field itself is read again there.
 pub struct Spot {
-    pub field: Field,
-    pub start: usize,
-    pub end: usize,
+    pub start: u8,
+    pub end: u8,
+    pub place: u8,
 }
 
 // The fields of a block, in order: the first count places. A block has 14 at most.
@@ -42,7 +43,21 @@ struct Pushed {
 pub fn no_spots() -> Spots
     ensures { λ r. ⌜ r ≡ noSpots ⌝ }
 {
-    let field = Field {
+    Spots {
+        spots: [Spot {
+            start: 0,
+            end: 0,
+            place: 0,
+        }; 14],
+        count: 0,
+    }
+}
+
+// A field with nothing in it.
+fn no_field() -> Field
+    ensures { λ r. ⌜ r ≡ nothing ⌝ }
+{
+    Field {
         cn: 0,
         oe: 0,
         pd: 0,
@@ -56,14 +71,19 @@ pub fn no_spots() -> Spots
         shorthand: 0,
         count: 0,
         from: 0,
-    };
-    Spots {
-        spots: [Spot {
-            field,
-            start: 0,
-            end: 0,
-        }; 14],
-        count: 0,
+    }
+}
+
+impl Spot {
+    // The field that stands at a spot of its FIG's body; one with nothing in it where none does.
+    pub fn field(self, body: &[u8]) -> Field
+        ensures { λ r. ⌜ r ≡ fieldIn (now (body .entry)) (self .place) ⌝ }
+    {
+        match field::field_at(body, self.place as usize) {
+            FieldStep::Found(f, _) => f,
+            FieldStep::End => no_field(),
+            FieldStep::Wrong => no_field(),
+        }
     }
 }
 
@@ -115,9 +135,9 @@ fn push_fields(fib: &[u8], start: usize, end: usize, before: Pushed) -> Pushed
                 fault = smaller(fault, fault_in(f));
                 let n = spots.count;
                 spots.spots[n] = Spot {
-                    field: f,
-                    start,
-                    end,
+                    start: start as u8,
+                    end: end as u8,
+                    place: at as u8,
                 };
                 spots.count = n + 1;
                 at = next;

@@ -25,7 +25,7 @@ use Rattle.lists.proofs.Pairs.{decide}
 use Rattle.lists.proofs.StoredLaws.{not-none, set-facts}
 use Rattle.lists.proofs.GrownLaws.{with-store, with-none}
 use Rattle.reading.specs.declared.Stepped.{Stepped}
-use Rattle.reading.specs.Steps.{steppedAs}
+use Rattle.reading.specs.Steps.{isShowing, steppedAs}
 
 -- a stored list is not empty
 some-long : (k : ℕ) (d : IdSet) → ifThere k (some d) ≡ true → storeMaybe (some d) .len ≡ 0 → ⊥
@@ -51,8 +51,8 @@ module _ (body : List ℕ) (f : Field) where
 
 module _ (body : List ℕ) (f : Field) (r : InBody body f) (q : f .qualifier ≡ 2 → ⊥) (e : Held) (s : Bool) (k : ℕ) where
   more-none : (o : Option IdSet) → ifThere k o ≡ true → storeMaybe o .len ≡ 0
-      → record { shown = storeMaybe (e .shown); draft = storeMaybe o; note = NoOpenList } ≡ steppedAs (continued linkage e s (brings (meaning body f)) o)
-  unfolding continued entryWith steppedAs
+      → record { shows = false; draft = storeMaybe o; note = NoOpenList } ≡ steppedAs (continued linkage e s (brings (meaning body f)) o)
+  unfolding continued entryWith steppedAs isShowing
   more-none none m z = refl
   more-none (some d) m z = absurd (some-long k d m z)
 
@@ -71,13 +71,13 @@ module _ (body : List ℕ) (f : Field) (r : InBody body f) (q : f .qualifier ≡
   grown-not d g h w l = w ∙ with-store body f r q d h ∙ rw l
 
   continued-fits : (d : IdSet) → leb (length (longer d .items)) 128 ≡ true
-      → record { shown = storeMaybe (e .shown); draft = storeList (longer d); note = Added } ≡ steppedAs (continued linkage e s (brings (meaning body f)) (some d))
-  unfolding longer continued entryWith steppedAs storeMaybe
+      → record { shows = false; draft = storeList (longer d); note = Added } ≡ steppedAs (continued linkage e s (brings (meaning body f)) (some d))
+  unfolding longer continued entryWith steppedAs isShowing storeMaybe
   continued-fits d l = rw l
 
   continued-not : (d : IdSet) → leb (length (longer d .items)) 128 ≡ false
-      → record { shown = storeMaybe (e .shown); draft = emptyList; note = TooLong } ≡ steppedAs (continued linkage e s (brings (meaning body f)) (some d))
-  unfolding longer continued entryWith steppedAs storeMaybe
+      → record { shows = false; draft = emptyList; note = TooLong } ≡ steppedAs (continued linkage e s (brings (meaning body f)) (some d))
+  unfolding longer continued entryWith steppedAs isShowing storeMaybe
   continued-not d l = rw l
 
   short : (d : IdSet) → ifThere k (some d) ≡ true → length (d .items) ≤ 128
@@ -85,40 +85,40 @@ module _ (body : List ℕ) (f : Field) (r : InBody body f) (q : f .qualifier ≡
   short d m = set-facts k d m .short
 
   more-fits : (o : Option IdSet) (g : Grown) → ifThere k o ≡ true → (storeMaybe o .len ≡ 0 → ⊥) → g ≡ withField (storeMaybe o) body f → g .fits ≡ true
-      → record { shown = storeMaybe (e .shown); draft = g .list; note = Added } ≡ steppedAs (continued linkage e s (brings (meaning body f)) o)
+      → record { shows = false; draft = g .list; note = Added } ≡ steppedAs (continued linkage e s (brings (meaning body f)) o)
   unfolding storeMaybe emptyList
   more-fits none g m n w t = absurd (n refl)
   more-fits (some d) g m n w t =
       decide (leb (length (longer d .items)) 128)
-      (λ l. ap (λ (x : Grown). record { shown = storeMaybe (e .shown); draft = x .list; note = Added }) (grown-fits d g (short d m) w l) ∙ continued-fits d l)
+      (λ l. ap (λ (x : Grown). record { shows = false; draft = x .list; note = Added }) (grown-fits d g (short d m) w l) ∙ continued-fits d l)
       (λ l. absurd (false≢true (sym (ap (λ (x : Grown). x .fits) (grown-not d g (short d m) w l)) ∙ t)))
 
   more-not : (o : Option IdSet) (g : Grown) → ifThere k o ≡ true → (storeMaybe o .len ≡ 0 → ⊥) → g ≡ withField (storeMaybe o) body f → g .fits ≡ false
-      → record { shown = storeMaybe (e .shown); draft = g .list; note = TooLong } ≡ steppedAs (continued linkage e s (brings (meaning body f)) o)
+      → record { shows = false; draft = g .list; note = TooLong } ≡ steppedAs (continued linkage e s (brings (meaning body f)) o)
   unfolding storeMaybe emptyList
   more-not none g m n w t = absurd (n refl)
   more-not (some d) g m n w t =
       decide (leb (length (longer d .items)) 128)
       (λ l. absurd (true≢false (sym (ap (λ (x : Grown). x .fits) (grown-fits d g (short d m) w l)) ∙ t)))
-      (λ l. ap (λ (x : Grown). record { shown = storeMaybe (e .shown); draft = x .list; note = TooLong }) (grown-not d g (short d m) w l) ∙ continued-not d l)
+      (λ l. ap (λ (x : Grown). record { shows = false; draft = x .list; note = TooLong }) (grown-not d g (short d m) w l) ∙ continued-not d l)
 
   -- a start, with the new list as it is stored
   start-none : (o : Option IdSet) (g : Grown) → ifThere k o ≡ true → storeMaybe o .len ≡ 0 → g ≡ withField emptyList body f
-      → record { shown = storeMaybe (e .shown); draft = g .list; note = Opened } ≡ steppedAs (started linkage e s (brings (meaning body f)) o)
-  unfolding started entryWith steppedAs storeMaybe
-  start-none none g m z w = ap (λ (x : Grown). record { shown = storeMaybe (e .shown); draft = x .list; note = Opened }) (w ∙ with-none body f r q)
+      → record { shows = false; draft = g .list; note = Opened } ≡ steppedAs (started linkage e s (brings (meaning body f)) o)
+  unfolding started entryWith steppedAs isShowing storeMaybe
+  start-none none g m z w = ap (λ (x : Grown). record { shows = false; draft = x .list; note = Opened }) (w ∙ with-none body f r q)
   start-none (some d) g m z w = absurd (some-long k d m z)
 
   start-some : (o : Option IdSet) (g : Grown) → (storeMaybe o .len ≡ 0 → ⊥) → g ≡ withField emptyList body f
-      → record { shown = storeMaybe o; draft = g .list; note = ShownAndOpened } ≡ steppedAs (started linkage e s (brings (meaning body f)) o)
-  unfolding started entryWith steppedAs storeMaybe emptyList
+      → record { shows = true; draft = g .list; note = ShownAndOpened } ≡ steppedAs (started linkage e s (brings (meaning body f)) o)
+  unfolding started entryWith steppedAs isShowing storeMaybe emptyList
   start-some none g n w = absurd (n refl)
-  start-some (some d) g n w = ap (λ (x : Grown). record { shown = storeList d; draft = x .list; note = ShownAndOpened }) (w ∙ with-none body f r q)
+  start-some (some d) g n w = ap (λ (x : Grown). record { shows = true; draft = x .list; note = ShownAndOpened }) (w ∙ with-none body f r q)
 
 -- ---- the field's step, as the code takes it
 
 module _ (body : List ℕ) (f : Field) (bytes : (i : ℕ) → getD body i 0 < 256) (e : Held) (s : Bool) (place next : ℕ) (fd : fieldStepAt body place ≡ Found f next)
-    (q : f .qualifier ≡ 2 → ⊥) (m : ifThere (e .key) (e .draft) ≡ true) (shown draft : IdList) (es : shown ≡ storeMaybe (e .shown)) (ed : draft ≡ storeMaybe (e .draft)) where
+    (q : f .qualifier ≡ 2 → ⊥) (m : ifThere (e .key) (e .draft) ≡ true) (draft : IdList) (ed : draft ≡ storeMaybe (e .draft)) where
   inside : InBody body f
   inside = fieldStepAt-range body place f next bytes fd .field
 
@@ -129,46 +129,42 @@ module _ (body : List ℕ) (f : Field) (bytes : (i : ℕ) → getD body i 0 < 25
   len-is : draft .len ≡ storeMaybe (e .draft) .len
   len-is = ap (λ (l : IdList). l .len) ed
 
-  pub step-state : hasListIn f ≡ false → record { shown = shown; draft = draft; note = StateOnly } ≡ steppedAs (onHeld linkage e s (actOf (meaning body f)))
-  unfolding onHeld entryWith steppedAs
-  step-state h = by-act noList _ (act-none body f h) (λ i. record { shown = es i; draft = ed i; note = StateOnly })
+  pub step-state : hasListIn f ≡ false → record { shows = false; draft = draft; note = StateOnly } ≡ steppedAs (onHeld linkage e s (actOf (meaning body f)))
+  unfolding onHeld entryWith steppedAs isShowing
+  step-state h = by-act noList _ (act-none body f h) (λ i. record { shows = false; draft = ed i; note = StateOnly })
 
   pub step-none : hasListIn f ≡ true → continues f ≡ true → draft .len ≡ 0
-      → record { shown = shown; draft = draft; note = NoOpenList } ≡ steppedAs (onHeld linkage e s (actOf (meaning body f)))
+      → record { shows = false; draft = draft; note = NoOpenList } ≡ steppedAs (onHeld linkage e s (actOf (meaning body f)))
   unfolding onHeld
   step-none h c z =
       by-act (continuation (brings (meaning body f))) _ (act-more body f h c)
-      ((λ i. record { shown = es i; draft = ed i; note = NoOpenList }) ∙ more-none body f inside q e s (e .key) (e .draft) m (sym len-is ∙ z))
+      ((λ i. record { shows = false; draft = ed i; note = NoOpenList }) ∙ more-none body f inside q e s (e .key) (e .draft) m (sym len-is ∙ z))
 
   module _ (g : Grown) where
     pub step-added : hasListIn f ≡ true → continues f ≡ true → (draft .len ≡ 0 → ⊥) → g ≡ withField draft body f → g .fits ≡ true
-        → record { shown = shown; draft = g .list; note = Added } ≡ steppedAs (onHeld linkage e s (actOf (meaning body f)))
+        → record { shows = false; draft = g .list; note = Added } ≡ steppedAs (onHeld linkage e s (actOf (meaning body f)))
     unfolding onHeld
     step-added h c n w t =
         by-act (continuation (brings (meaning body f))) _ (act-more body f h c)
-        ((λ i. record { shown = es i; draft = g .list; note = Added })
-        ∙ more-fits body f inside q e s (e .key) (e .draft) g m (λ z. n (len-is ∙ z)) (w ∙ ap (λ (l : IdList). withField l body f) ed) t)
+        (more-fits body f inside q e s (e .key) (e .draft) g m (λ z. n (len-is ∙ z)) (w ∙ ap (λ (l : IdList). withField l body f) ed) t)
 
     pub step-long : hasListIn f ≡ true → continues f ≡ true → (draft .len ≡ 0 → ⊥) → g ≡ withField draft body f → g .fits ≡ false
-        → record { shown = shown; draft = g .list; note = TooLong } ≡ steppedAs (onHeld linkage e s (actOf (meaning body f)))
+        → record { shows = false; draft = g .list; note = TooLong } ≡ steppedAs (onHeld linkage e s (actOf (meaning body f)))
     unfolding onHeld
     step-long h c n w t =
         by-act (continuation (brings (meaning body f))) _ (act-more body f h c)
-        ((λ i. record { shown = es i; draft = g .list; note = TooLong })
-        ∙ more-not body f inside q e s (e .key) (e .draft) g m (λ z. n (len-is ∙ z)) (w ∙ ap (λ (l : IdList). withField l body f) ed) t)
+        (more-not body f inside q e s (e .key) (e .draft) g m (λ z. n (len-is ∙ z)) (w ∙ ap (λ (l : IdList). withField l body f) ed) t)
 
     pub step-opened : hasListIn f ≡ true → continues f ≡ false → draft .len ≡ 0 → (l : IdList) → l ≡ emptyList → g ≡ withField l body f
-        → record { shown = shown; draft = g .list; note = Opened } ≡ steppedAs (onHeld linkage e s (actOf (meaning body f)))
+        → record { shows = false; draft = g .list; note = Opened } ≡ steppedAs (onHeld linkage e s (actOf (meaning body f)))
     unfolding onHeld
     step-opened h c z l p w =
         by-act (start (brings (meaning body f))) _ (act-start body f h c)
-        ((λ i. record { shown = es i; draft = g .list; note = Opened })
-        ∙ start-none body f inside q e s (e .key) (e .draft) g m (sym len-is ∙ z) (w ∙ ap (λ (x : IdList). withField x body f) p))
+        (start-none body f inside q e s (e .key) (e .draft) g m (sym len-is ∙ z) (w ∙ ap (λ (x : IdList). withField x body f) p))
 
     pub step-shown : hasListIn f ≡ true → continues f ≡ false → (draft .len ≡ 0 → ⊥) → (l : IdList) → l ≡ emptyList → g ≡ withField l body f
-        → record { shown = draft; draft = g .list; note = ShownAndOpened } ≡ steppedAs (onHeld linkage e s (actOf (meaning body f)))
+        → record { shows = true; draft = g .list; note = ShownAndOpened } ≡ steppedAs (onHeld linkage e s (actOf (meaning body f)))
     unfolding onHeld
     step-shown h c n l p w =
         by-act (start (brings (meaning body f))) _ (act-start body f h c)
-        ((λ i. record { shown = ed i; draft = g .list; note = ShownAndOpened })
-        ∙ start-some body f inside q e s (e .key) (e .draft) g (λ z. n (len-is ∙ z)) (w ∙ ap (λ (x : IdList). withField x body f) p))
+        (start-some body f inside q e s (e .key) (e .draft) g (λ z. n (len-is ∙ z)) (w ∙ ap (λ (x : IdList). withField x body f) p))

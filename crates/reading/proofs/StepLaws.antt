@@ -24,6 +24,7 @@ use Rattle.table.specs.declared.Table.{Table}
 use Rattle.table.specs.Stored.{keyIn, onIn, shownIn, draftIn, storeTable, openedTable}
 use Rattle.table.specs.Places.{placeIn, opened}
 use Rattle.table.proofs.Entries.{Here, noEntry, place-most, find-here, find-not-here, replace-here, insert-here, column-set, column-opened}
+use Rattle.reading.specs.Steps.{isShowing}
 
 -- ---- what a field of a held key sets
 
@@ -43,6 +44,23 @@ module _ (e : Held) (s : Bool) where
   held-state (start l) = started-state l (e .draft)
   held-state (continuation l) = continued-state l (e .draft)
   held-state noList = refl
+
+  started-shown : (l : IdSet) (o : Option IdSet) → started linkage e s l o .0 .shown ≡ cond (isShowing (started linkage e s l o .1)) o (e .shown)
+  unfolding started entryWith isShowing
+  started-shown l none = refl
+  started-shown l (some d) = refl
+
+  continued-shown : (l : IdSet) (o : Option IdSet) → continued linkage e s l o .0 .shown ≡ cond (isShowing (continued linkage e s l o .1)) o (e .shown)
+  unfolding continued entryWith isShowing
+  continued-shown l none = refl
+  continued-shown l (some d) = decide (leb (length (extended linkage d l .items)) 128) (λ b. rw b) (λ b. rw b)
+
+  -- the list that was open is shown exactly where the note says so
+  pub held-shown : (a : Act linkage) → onHeld linkage e s a .0 .shown ≡ cond (isShowing (onHeld linkage e s a .1)) (e .draft) (e .shown)
+  unfolding onHeld entryWith isShowing
+  held-shown (start l) = started-shown l (e .draft)
+  held-shown (continuation l) = continued-shown l (e .draft)
+  held-shown noList = refl
 
 -- ---- a held key
 

@@ -9,7 +9,7 @@ use mathlib.Core.List.{List, [], _∷_, _++_, map}
 use mathlib.Core.Option.{Option, none, some}
 use lib.ListN.{length-take, length-drop, length, getD, set, take, drop, replicate, length-map, length-replicate, replicate-append-replicate}
 use lib.Dec.{ltb, eqb}
-use lib.Seq.{take-take, drop-drop}
+use lib.Seq.{take-take, drop-drop, set-getD}
 use borrow.Author.Tests.{ltb-true, ltb-false, eqb-true, eqb-false, lt-ltb, le-ltb, not-true}
 use Rattle.rules.specs.declared.Outcome.{Outcome}
 use Rattle.rules.specs.declared.Outcome.the-variants.{Done, NotABlock, CheckFails, WrongFig, WrongField, WrongValue, EmptyStart, NotHeld, ShortBuffer, WrongTable, NotASheet, NotShown}
@@ -23,6 +23,7 @@ use Rattle.rules.specs.Family.{Act, start, continuation, noList, step, onHeld, 
 use Rattle.rules.specs.Collecting.{linkage, IdSet, Held, Content, said, actOf, brings, meets, ascends, ifThere}
 use Rattle.rules.proofs.FamilyLaws.{onHeld-key}
 use Rattle.field.specs.declared.Field.{Field}
+use Rattle.field.specs.declared.FieldStep.the-variants.{Found}
 use Rattle.field.specs.FieldStep.{meaning, keyIn, hasListIn, continues, fieldStepAt}
 use Rattle.field.proofs.Laws.{InBody, fieldStepAt-range}
 use Rattle.lists.specs.declared.IdList.{IdList}
@@ -43,12 +44,12 @@ use Rattle.table.proofs.CopyOut.{column-at, entry-at}
 use Rattle.block.specs.declared.Spot.{Spot}
 use Rattle.block.specs.declared.Spots.{Spots}
 use Rattle.block.specs.declared.Judged.{Judged}
-use Rattle.block.specs.Judged.{SpotIs, bodyAt, noSpot, Placed, Judges, isTaken, isRefused, isNoBlock}
+use Rattle.block.specs.Judged.{fieldIn, SpotIs, bodyAt, noSpot, Placed, Judges, isTaken, isRefused, isNoBlock}
 use Rattle.reading.specs.declared.Stepped.{Stepped}
 use Rattle.reading.specs.declared.Notes.{Notes}
-use Rattle.reading.specs.Steps.{steppedAs, HeldStep, opensIn, unheldNote, notedAt, noNotes, isDone}
+use Rattle.reading.specs.Steps.{isShowing, steppedAs, HeldStep, opensIn, unheldNote, notedAt, noNotes, isDone}
 use Rattle.reading.proofs.HeldLaws.{act-none, act-more, act-start}
-use Rattle.reading.proofs.StepLaws.{at', setAt, store-set, step-here, step-new, step-full, step-unknown-more, step-unknown-none, store-new, held-state}
+use Rattle.reading.proofs.StepLaws.{at', setAt, store-set, step-here, step-new, step-full, step-unknown-more, step-unknown-none, store-new, held-state, held-shown}
 use Rattle.reading.proofs.RunLaws.{Going, field-now, spot-now, good-now, more-fields, few-fields, going-next, going-taken, going-refused, part-bytes}
 
 -- ---- a part of a part
@@ -85,9 +86,9 @@ body-of bytes from s o e =
 
 module _ (bytes : List ℕ) (t₀ t : Table) (notes : Notes) (o : Outcome) (spots : Spots) (from at i : ℕ) (G : Going bytes t₀ t notes o spots from at i)
     (h : i < spots .count) (body : List ℕ) (body-is : body ≡ bodyAt (take 32 (drop from bytes)) (getD (spots .spots) i noSpot))
-    (key : ℕ) (ke : key ≡ keyIn (getD (spots .spots) i noSpot .field)) (p : ℕ) (p-is : p ≡ placeIn (take (t .count) (t .keys)) key) where
-  abbrev f : Field
-  f = getD (spots .spots) i noSpot .field
+    (f : Field) (f-is : f ≡ fieldIn body (getD (spots .spots) i noSpot .place)) (key : ℕ) (ke : key ≡ keyIn f) (p : ℕ) (p-is : p ≡ placeIn (take (t .count) (t .keys)) key) where
+  abbrev at-place : ℕ
+  at-place = getD (spots .spots) i noSpot .place
 
   g : FieldOf
   g = field-now bytes t₀ t notes o spots from at i G
@@ -100,7 +101,12 @@ module _ (bytes : List ℕ) (t₀ t : Table) (notes : Notes) (o : Outcome) (spot
   spot = spot-now bytes t₀ t notes o spots from at i G h
 
   means : meaning body f ≡ g
-  means = ap (λ (b : List ℕ). meaning b f) body-is ∙ spot .means
+  means = ap (meaning body) f-is ∙ ap (λ (b : List ℕ). meaning b (fieldIn b at-place)) body-is ∙ spot .means
+
+  found : fieldStepAt body at-place ≡ Found f (spot .found .0)
+  found =
+      ap (λ (b : List ℕ). fieldStepAt b at-place) body-is ∙ spot .found .1
+      ∙ ap (λ (y : Field). Found y (spot .found .0)) (sym (f-is ∙ ap (λ (b : List ℕ). fieldIn b at-place) body-is))
 
   la-is : eqb (f .la) 1 ≡ eqb (g .la) 1
   unfolding meaning
@@ -136,7 +142,7 @@ module _ (bytes : List ℕ) (t₀ t : Table) (notes : Notes) (o : Outcome) (spot
   -- ---- a held key
 
   module _ (b : (ltb p (t .count) && eqb (getD (t .keys) p 0) key) ≡ true) (r : Stepped)
-      (held : HeldStep body f (getD (t .shown) p past) (getD (t .draft) p past) r) where
+      (held : HeldStep body f (getD (t .draft) p past) r) where
     j : ℕ
     j = placeIn (map S.keyIn c) (keyOf g)
 
@@ -170,20 +176,54 @@ module _ (bytes : List ℕ) (t₀ t : Table) (notes : Notes) (o : Outcome) (spot
     result : r ≡ steppedAs after
     unfolding HeldStep after
     result =
-        held x (eqb (g .la) 1) (spot .found .0) (spot .found .1) (ap (λ (l : List ℕ). fieldStepAt l (spot .found .0)) body-is ∙ spot .found .2) reserved draft-meets shown-is draft-is
+        held x (eqb (g .la) 1) at-place (spot .found .0) found reserved draft-meets draft-is
         ∙ ap (λ (y : FieldOf). steppedAs (onHeld linkage x (eqb (g .la) 1) (actOf y))) means
 
-    table-is : setAt t p (eqb (f .la) 1) (r .shown) (r .draft) ≡ storeTable (set c j (after .0))
+    -- what is shown then: the list that was open, or the set as it was
+    shows-is : r .shows ≡ isShowing (after .1)
+    unfolding steppedAs
+    shows-is = ap (λ (y : Stepped). y .shows) result
+
+    shown-then : storeMaybe (after .0 .shown) ≡ storeMaybe (cond (r .shows) (x .draft) (x .shown))
+    unfolding after
+    shown-then =
+        ap storeMaybe (held-shown x (eqb (g .la) 1) (actOf g))
+        ∙ ap (λ (b : Bool). storeMaybe (cond b (x .draft) (x .shown))) (sym shows-is)
+
+    table-is : (shown : IdList) → shown ≡ storeMaybe (after .0 .shown) → setAt t p (eqb (f .la) 1) shown (r .draft) ≡ storeTable (set c j (after .0))
     unfolding c j x after steppedAs
-    table-is =
-        (λ k. setAt (G .stored k) (place k) ((la-is ∙ sym (held-state x (eqb (g .la) 1) (actOf g))) k) (result k .shown) (result k .draft))
+    table-is shown e =
+        (λ k. setAt (G .stored k) (place k) ((la-is ∙ sym (held-state x (eqb (g .la) 1) (actOf g))) k) (e k) (result k .draft))
         ∙ sym (store-set c j (after .0) within (onHeld-key linkage x (eqb (g .la) 1) (actOf g)))
 
-    pub turn-held : (notes' : Notes) → notes' ≡ notedAt notes i (r .note) → Going bytes t₀ (setAt t p (eqb (f .la) 1) (r .shown) (r .draft)) notes' o spots from at (i + 1)
+    turn-with : (shown : IdList) → shown ≡ storeMaybe (after .0 .shown) → (notes' : Notes) → notes' ≡ notedAt notes i (r .note)
+        → Going bytes t₀ (setAt t p (eqb (f .la) 1) shown (r .draft)) notes' o spots from at (i + 1)
     unfolding c g j x after steppedAs
-    turn-held notes' q =
+    turn-with shown e notes' q =
         going-next bytes t₀ t notes o spots from at i G h _ notes' (after .1) (set c j (after .0))
-        (step-here c g (here b)) table-is (q ∙ ap (λ (y : Stepped). notedAt notes i (y .note)) result)
+        (step-here c g (here b)) (table-is shown e) (q ∙ ap (λ (y : Stepped). notedAt notes i (y .note)) result)
+
+    -- u is the table once what is shown is stored, the list before it or nothing new; then come the new list and the state
+    abbrev listAt : Table → Table
+    listAt u = record { count = u .count; keys = u .keys; on = set (u .on) p (eqb (f .la) 1); shown = u .shown; draft = set (u .draft) p (r .draft) }
+
+    module _ (u : Table) (notes' : Notes) (q : notes' ≡ notedAt notes i (r .note)) where
+      turn-from : (l : List IdList) → u ≡ record { count = t .count; keys = t .keys; on = t .on; shown = l; draft = t .draft }
+          → (shown : IdList) → set (t .shown) p shown ≡ l → shown ≡ storeMaybe (after .0 .shown) → Going bytes t₀ (listAt u) notes' o spots from at (i + 1)
+      unfolding setAt
+      turn-from l e shown le is =
+          subst (λ (v : Table). Going bytes t₀ (listAt v) notes' o spots from at (i + 1)) (sym e)
+          (subst
+            (λ (m : List IdList). Going bytes t₀ (listAt (record { count = t .count; keys = t .keys; on = t .on; shown = m; draft = t .draft })) notes' o spots from at (i + 1))
+            le (turn-with shown is notes' q))
+
+      pub turn-shows : r .shows ≡ true → u ≡ record { count = t .count; keys = t .keys; on = t .on; shown = set (t .shown) p (getD (t .draft) p past); draft = t .draft }
+          → Going bytes t₀ (listAt u) notes' o spots from at (i + 1)
+      turn-shows s e = turn-from _ e _ refl (draft-is ∙ sym (shown-then ∙ ap (λ (b : Bool). storeMaybe (cond b (x .draft) (x .shown))) s))
+
+      pub turn-keeps : r .shows ≡ false → u ≡ t → Going bytes t₀ (listAt u) notes' o spots from at (i + 1)
+      turn-keeps s e =
+          turn-from _ e _ (set-getD (t .shown) p past) (shown-is ∙ sym (shown-then ∙ ap (λ (b : Bool). storeMaybe (cond b (x .draft) (x .shown))) s))
 
   -- ---- a key that is not held
 
@@ -219,9 +259,9 @@ module _ (bytes : List ℕ) (t₀ t : Table) (notes : Notes) (o : Outcome) (spot
       where
         inside : ((n : ℕ) → getD bytes n 0 < 256) → InBody body f
         inside b256 =
-            fieldStepAt-range body (spot .found .0) f (spot .found .1)
+            fieldStepAt-range body at-place f (spot .found .0)
             (subst (λ (l : List ℕ). (n : ℕ) → getD l n 0 < 256) (sym body-is) (part-bytes (getD (spots .spots) i noSpot .end - getD (spots .spots) i noSpot .start) (getD (spots .spots) i noSpot .start) (take 32 (drop from bytes)) (part-bytes 32 from bytes b256)))
-            (ap (λ (l : List ℕ). fieldStepAt l (spot .found .0)) body-is ∙ spot .found .2) .field
+            found .field
 
     -- anything else changes nothing
     same : (n : Note) → step linkage c (said g) ≡ (c, n) → (notes' : Notes) → notes' ≡ notedAt notes i n → Going bytes t₀ t notes' o spots from at (i + 1)

@@ -8,7 +8,7 @@ use lib.Dec.{ltb}
 use Rattle.rules.specs.declared.Outcome.{Outcome}
 use Rattle.rules.specs.declared.Outcome.the-variants.{Done, NotABlock, CheckFails, WrongFig, WrongField, WrongValue, EmptyStart, NotHeld, ShortBuffer, WrongTable, NotASheet, NotShown}
 use Rattle.rules.specs.declared.Note.{Note}
-use Rattle.rules.specs.declared.Note.the-variants.{Opened, Full, UnknownKey}
+use Rattle.rules.specs.declared.Note.the-variants.{Opened, ShownAndOpened, Added, NoOpenList, Full, TooLong, StateOnly, UnknownKey}
 use Rattle.rules.specs.Family.{Entry, onHeld}
 use Rattle.rules.specs.Collecting.{linkage, Held, actOf, ifThere}
 use Rattle.field.specs.declared.Field.{Field}
@@ -20,15 +20,26 @@ use Rattle.reading.specs.declared.Stepped.{Stepped}
 use Rattle.reading.specs.declared.Noted.{Noted}
 use Rattle.reading.specs.declared.Notes.{Notes}
 
--- an entry's set and list as they are stored, with the note
-unfoldable pub steppedAs : Held × Note → Stepped
-steppedAs r = record { shown = storeMaybe (r .0 .shown); draft = storeMaybe (r .0 .draft); note = r .1 }
+-- the list that was open is shown: its note says so
+unfoldable pub isShowing : Note → Bool
+isShowing Opened = false
+isShowing ShownAndOpened = true
+isShowing Added = false
+isShowing NoOpenList = false
+isShowing Full = false
+isShowing TooLong = false
+isShowing StateOnly = false
+isShowing UnknownKey = false
 
--- a field that was found in a body does to the stored set and list of an entry what the rules say
-unfoldable pub HeldStep : List ℕ → Field → IdList → IdList → Stepped → Type 0
-HeldStep body f shown draft r =
+-- an entry's list as it is stored, with the note, and whether the list before it is shown
+unfoldable pub steppedAs : Held × Note → Stepped
+steppedAs r = record { shows = isShowing (r .1); draft = storeMaybe (r .0 .draft); note = r .1 }
+
+-- a field that was found in a body does to the stored list of an entry what the rules say
+unfoldable pub HeldStep : List ℕ → Field → IdList → Stepped → Type 0
+HeldStep body f draft r =
     (e : Held) (s : Bool) (place next : ℕ) → fieldStepAt body place ≡ Found f next → (f .qualifier ≡ 2 → ⊥) → ifThere (e .key) (e .draft) ≡ true
-    → shown ≡ storeMaybe (e .shown) → draft ≡ storeMaybe (e .draft) → r ≡ steppedAs (onHeld linkage e s (actOf (meaning body f)))
+    → draft ≡ storeMaybe (e .draft) → r ≡ steppedAs (onHeld linkage e s (actOf (meaning body f)))
 
 -- a field of a key that is not held opens a list: a start, and room for one key more
 unfoldable pub opensIn : Field → ℕ → Bool

@@ -22,37 +22,37 @@ use rules::Note;
 use rules::Outcome;
 use table::Table;
 
-// What a field leaves of a held key's set and list, and its note.
+// What a field leaves of a held key's list, whether the list that was open is shown instead of the set, and the note.
 struct Stepped {
-    shown: IdList,
+    shows: bool,
     draft: IdList,
     note: Note,
 }
 
 // A field of a held key.
-fn on_held(shown: IdList, draft: IdList, body: &[u8], f: Field) -> Stepped
-    ensures { λ r. ⌜ HeldStep (now (body .entry)) f shown draft r ⌝ }
+fn on_held(draft: IdList, body: &[u8], f: Field) -> Stepped
+    ensures { λ r. ⌜ HeldStep (now (body .entry)) f draft r ⌝ }
 {
     if !f.has_list() {
-        return Stepped { shown, draft, note: Note::StateOnly };
+        return Stepped { shows: false, draft, note: Note::StateOnly };
     }
     if f.is_continuation() {
         if draft.len == 0 {
-            return Stepped { shown, draft, note: Note::NoOpenList };
+            return Stepped { shows: false, draft, note: Note::NoOpenList };
         }
         let grown = draft.with_field(body, f);
         let longer = grown.list;
         if grown.fits {
-            return Stepped { shown, draft: longer, note: Note::Added };
+            return Stepped { shows: false, draft: longer, note: Note::Added };
         }
-        return Stepped { shown, draft: longer, note: Note::TooLong };
+        return Stepped { shows: false, draft: longer, note: Note::TooLong };
     }
     let grown = IdList::empty().with_field(body, f);
     let opened = grown.list;
     if draft.len == 0 {
-        return Stepped { shown, draft: opened, note: Note::Opened };
+        return Stepped { shows: false, draft: opened, note: Note::Opened };
     }
-    Stepped { shown: draft, draft: opened, note: Note::ShownAndOpened }
+    Stepped { shows: true, draft: opened, note: Note::ShownAndOpened }
 }
 
 // Whether a key stands at its place.
@@ -159,22 +159,22 @@ fn run_blocks(table: Table, bytes: &[u8]) -> Answer
     loop {
         if i < spots.count {
             let spot = spots.spots[i];
-            let f = spot.field;
-            let start = from + spot.start;
-            let end = from + spot.end;
+            let start = from + spot.start as usize;
+            let end = from + spot.end as usize;
+            let f = spot.field(&bytes[start..end]);
             let key = f.key();
             let count = t.count;
             let p = table::place_of(&t.keys, count, key);
             if stands_at(&t.keys, count, p, key) {
-                let shown = t.shown[p];
                 let draft = t.draft[p];
-                let held = on_held(shown, draft, &bytes[start..end], f);
-                let new_shown = held.shown;
-                let new_draft = held.draft;
-                t.shown[p] = new_shown;
-                t.draft[p] = new_draft;
-                t.on[p] = f.la == 1;
+                let held = on_held(draft, &bytes[start..end], f);
+                let left = held.draft;
                 let note = held.note;
+                if held.shows {
+                    t.shown[p] = draft;
+                }
+                t.draft[p] = left;
+                t.on[p] = f.la == 1;
                 notes = notes.noted(i, note);
                 i += 1;
             } else if opens(f, count) {

@@ -2,6 +2,7 @@
 -- comes after the body. The measure is what is left of the body.
 -- Assumes nothing.
 use Prim.Native.Nat.{ℕ, _-_, min}
+use native.Mathlib.Omega.{arith}
 use mathlib.Core.Path.{_≡_, sym, ap, _∙_, subst}
 use lib.ListN.{length}
 use borrow.Author.Needs.{needs}
@@ -63,8 +64,29 @@ fault-in-requires c κs = search needs
 smaller-requires : tie.Need-smaller-requires Inv-loop μ-loop
 smaller-requires c κs = search needs
 
-mul-t20 : tie.Need-mul-t20 Inv-loop μ-loop
-mul-t20 c = search needs
+cast-t18 : tie.Need-cast-t18 Inv-loop μ-loop
+cast-t18 c =
+    let s = c .before .before .before in
+    let l = s .before .before .before in
+    let b = l .before .before .before .before in
+    omega (arith, b .pre .within, l .loop .inv .within)
+
+cast-t19 : tie.Need-cast-t19 Inv-loop μ-loop
+cast-t19 c =
+    let s = c .before .before .before in
+    let l = s .before .before .before in
+    let b = l .before .before .before .before in
+    omega (arith, b .pre .within, l .loop .inv .within)
+
+cast-t20 : tie.Need-cast-t20 Inv-loop μ-loop
+cast-t20 c =
+    let s = c .before .before .before in
+    let l = s .before .before .before in
+    let b = l .before .before .before .before in
+    omega (arith, b .pre .within, l .loop .inv .within)
+
+mul-t22 : tie.Need-mul-t22 Inv-loop μ-loop
+mul-t22 c = search needs
 
 element-set-from-spots : tie.Need-element-set-from-spots Inv-loop μ-loop
 element-set-from-spots c =
@@ -92,7 +114,7 @@ loop-again c =
     let fault = c .smaller .ensures ∙ ap (min (l .loop .fault)) (c .before .fault-in .ensures) in
     subst
     (λ (k : ℕ). FieldsSoFar (x .fib .now) (x .start) (x .end) (x .before .fault) (x .before .spots) k
-    (withSpot (l .loop .spots) (record { field = s .step .given .0 .0; start = x .start; end = x .end })) (s .step .given .0 .1 .0))
+    (withSpot (l .loop .spots) (record { start = x .start; end = x .end; place = l .loop .at })) (s .step .given .0 .1 .0))
     (sym fault)
     (fields-next _ _ _ _ _ _ _ _ (b .pre .block) (b .pre .within) (l .loop .inv) _ _
     (sym (s .before .before .field-at .ensures) ∙ s .step .given .1))
@@ -115,7 +137,10 @@ push-fields-spec =
     enum-known-step
     fault-in-requires
     smaller-requires
-    mul-t20
+    cast-t18
+    cast-t19
+    cast-t20
+    mul-t22
     element-set-from-spots
     add-spots
     loop-less

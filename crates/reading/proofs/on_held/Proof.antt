@@ -19,25 +19,25 @@ has-list-requires c κs = search needs
 
 returns : tie.Need-returns
 unfolding HeldStep
-returns c = λ e s place next fd q m es ed. step-state _ _ (λ i. c .before .before .shared-slice-known .given i .fits) e s place next fd q m _ _ es ed (sym (c .before .has-list .ensures) ∙ not-true _ (c .if1 .taken))
+returns c = λ e s place next fd q m ed. step-state _ _ (λ i. c .before .before .shared-slice-known .given i .fits) e s place next fd q m _ ed (sym (c .before .has-list .ensures) ∙ not-true _ (c .if1 .taken))
 
 is-continuation-requires : tie.Need-is-continuation-requires
 is-continuation-requires c κs = search needs
 
 returns-2 : tie.Need-returns-2
 unfolding HeldStep
-returns-2 c = λ e s place next fd q m es ed. step-none _ _ (λ i. c .before .before .before .before .before .before .shared-slice-known .given i .fits) e s place next fd q m _ _ es ed (sym (c .before .before .before .before .before .has-list .ensures) ∙ not-false _ (c .before .before .before .before .if1 .left)) (sym (c .before .before .before .is-continuation .ensures) ∙ c .before .before .if2 .taken) (c .if3 .taken)
+returns-2 c = λ e s place next fd q m ed. step-none _ _ (λ i. c .before .before .before .before .before .before .shared-slice-known .given i .fits) e s place next fd q m _ ed (sym (c .before .before .before .before .before .has-list .ensures) ∙ not-false _ (c .before .before .before .before .if1 .left)) (sym (c .before .before .before .is-continuation .ensures) ∙ c .before .before .if2 .taken) (c .if3 .taken)
 
 with-field-requires : tie.Need-with-field-requires
 with-field-requires c κs = search needs
 
 returns-3 : tie.Need-returns-3
 unfolding HeldStep
-returns-3 c = λ e s place next fd q m es ed. step-added _ _ (λ i. c .before .before .before .before .before .before .before .before .before .shared-slice-known .given i .fits) e s place next fd q m _ _ es ed (c .before .before .with-field .result) (sym (c .before .before .before .before .before .before .before .before .has-list .ensures) ∙ not-false _ (c .before .before .before .before .before .before .before .if1 .left)) (sym (c .before .before .before .before .before .before .is-continuation .ensures) ∙ c .before .before .before .before .before .if2 .taken) (c .before .before .before .if3 .left) (c .before .before .with-field .ensures) (c .if4 .taken)
+returns-3 c = λ e s place next fd q m ed. step-added _ _ (λ i. c .before .before .before .before .before .before .before .before .before .shared-slice-known .given i .fits) e s place next fd q m _ ed (c .before .before .with-field .result) (sym (c .before .before .before .before .before .before .before .before .has-list .ensures) ∙ not-false _ (c .before .before .before .before .before .before .before .if1 .left)) (sym (c .before .before .before .before .before .before .is-continuation .ensures) ∙ c .before .before .before .before .before .if2 .taken) (c .before .before .before .if3 .left) (c .before .before .with-field .ensures) (c .if4 .taken)
 
 returns-4 : tie.Need-returns-4
 unfolding HeldStep
-returns-4 c = λ e s place next fd q m es ed. step-long _ _ (λ i. c .before .before .before .before .before .before .before .before .before .shared-slice-known .given i .fits) e s place next fd q m _ _ es ed (c .before .before .with-field .result) (sym (c .before .before .before .before .before .before .before .before .has-list .ensures) ∙ not-false _ (c .before .before .before .before .before .before .before .if1 .left)) (sym (c .before .before .before .before .before .before .is-continuation .ensures) ∙ c .before .before .before .before .before .if2 .taken) (c .before .before .before .if3 .left) (c .before .before .with-field .ensures) (c .if4 .left)
+returns-4 c = λ e s place next fd q m ed. step-long _ _ (λ i. c .before .before .before .before .before .before .before .before .before .shared-slice-known .given i .fits) e s place next fd q m _ ed (c .before .before .with-field .result) (sym (c .before .before .before .before .before .before .before .before .has-list .ensures) ∙ not-false _ (c .before .before .before .before .before .before .before .if1 .left)) (sym (c .before .before .before .before .before .before .is-continuation .ensures) ∙ c .before .before .before .before .before .if2 .taken) (c .before .before .before .if3 .left) (c .before .before .with-field .ensures) (c .if4 .left)
 
 empty-requires : tie.Need-empty-requires
 empty-requires c κs = search needs
@@ -47,11 +47,11 @@ with-field-requires-2 c κs = search needs
 
 returns-5 : tie.Need-returns-5
 unfolding HeldStep
-returns-5 c = λ e s place next fd q m es ed. step-opened _ _ (λ i. c .before .before .before .before .before .before .before .before .before .shared-slice-known .given i .fits) e s place next fd q m _ _ es ed (c .before .before .before .with-field2 .result) (sym (c .before .before .before .before .before .before .before .before .has-list .ensures) ∙ not-false _ (c .before .before .before .before .before .before .before .if1 .left)) (sym (c .before .before .before .before .before .before .is-continuation .ensures) ∙ c .before .before .before .before .before .if2 .left) (c .if5 .taken) (c .before .before .before .before .empty .result) (c .before .before .before .before .empty .ensures) (c .before .before .before .with-field2 .ensures)
+returns-5 c = λ e s place next fd q m ed. step-opened _ _ (λ i. c .before .before .before .before .before .before .before .before .before .shared-slice-known .given i .fits) e s place next fd q m _ ed (c .before .before .before .with-field2 .result) (sym (c .before .before .before .before .before .before .before .before .has-list .ensures) ∙ not-false _ (c .before .before .before .before .before .before .before .if1 .left)) (sym (c .before .before .before .before .before .before .is-continuation .ensures) ∙ c .before .before .before .before .before .if2 .left) (c .if5 .taken) (c .before .before .before .before .empty .result) (c .before .before .before .before .empty .ensures) (c .before .before .before .with-field2 .ensures)
 
 returns-6 : tie.Need-returns-6
 unfolding HeldStep
-returns-6 c = λ e s place next fd q m es ed. step-shown _ _ (λ i. c .before .before .before .before .before .before .before .before .before .shared-slice-known .given i .fits) e s place next fd q m _ _ es ed (c .before .before .before .with-field2 .result) (sym (c .before .before .before .before .before .before .before .before .has-list .ensures) ∙ not-false _ (c .before .before .before .before .before .before .before .if1 .left)) (sym (c .before .before .before .before .before .before .is-continuation .ensures) ∙ c .before .before .before .before .before .if2 .left) (c .if5 .left) (c .before .before .before .before .empty .result) (c .before .before .before .before .empty .ensures) (c .before .before .before .with-field2 .ensures)
+returns-6 c = λ e s place next fd q m ed. step-shown _ _ (λ i. c .before .before .before .before .before .before .before .before .before .shared-slice-known .given i .fits) e s place next fd q m _ ed (c .before .before .before .with-field2 .result) (sym (c .before .before .before .before .before .before .before .before .has-list .ensures) ∙ not-false _ (c .before .before .before .before .before .before .before .if1 .left)) (sym (c .before .before .before .before .before .before .is-continuation .ensures) ∙ c .before .before .before .before .before .if2 .left) (c .if5 .left) (c .before .before .before .before .empty .result) (c .before .before .before .before .empty .ensures) (c .before .before .before .with-field2 .ensures)
 
 pub on-held-spec : {M : Type 1} → statement M
 on-held-spec =

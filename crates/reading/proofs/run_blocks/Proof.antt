@@ -3,18 +3,20 @@
 use Prim.Native.Nat.{ℕ, _+_, _-_, _<_, _≤_}
 use native.Mathlib.Omega.{arith}
 use mathlib.Core.Path.{_≡_, refl, sym, ap, _∙_}
+use mathlib.Core.Logic.{⊎-elim}
 use lib.ListN.{length, getD}
 use Rattle.block.specs.Judged.{noSpot}
 use borrow.Author.Tests.{not-true, not-false}
 use Rattle.table.specs.Stored.{Stored}
 use Rattle.reading.proofs.RunLaws.{Going, going-first, going-end}
 use Rattle.reading.proofs.StepLaws.{setAt}
-use Rattle.reading.proofs.Turns.{Fits', fits-now, table-short, place-short, body-of, block-part, judged-few, turn-held, turn-new, turn-same, turn-taken, turn-refused}
+use Rattle.reading.proofs.Turns.{Fits', fits-now, table-short, place-short, body-of, block-part, judged-few, turn-shows, turn-keeps, turn-new, turn-same, turn-taken, turn-refused}
 use borrow.Author.Needs.{needs}
 use Rattle.reading.proofs.run_blocks.Statement.{statement}
 use Rattle.reading.proofs.run_blocks.Tie as tie
 use Rattle.reading.proofs.run_blocks.Reads as reads
 use Rattle.reading.proofs.run_blocks.Lts as lts
+use Rattle.block.proofs.Spot.field.Reads as field-reads
 use Rattle.block.proofs.judge.Reads as judge-reads
 use Rattle.block.proofs.no_spots.Reads as no-spots-reads
 use Rattle.field.proofs.Field.key.Reads as key-reads
@@ -52,11 +54,29 @@ mul-spot c = let w = fits-now _ _ _ _ _ _ _ _ _ (c .before .loop .inv) (c .if1 .
 element-copy-out-spot : tie.Need-element-copy-out-spot Inv-loop μ-loop
 element-copy-out-spot c = let w = fits-now _ _ _ _ _ _ _ _ _ (c .before .loop .inv) (c .if1 .taken) in omega arith
 
+cast-start : tie.Need-cast-start Inv-loop μ-loop
+cast-start c = search needs
+
 add-start : tie.Need-add-start Inv-loop μ-loop
-add-start c = let w = fits-now _ _ _ _ _ _ _ _ _ (c .before .before .before .before .loop .inv) (c .before .before .before .if1 .taken) in omega arith
+add-start c = let w = fits-now _ _ _ _ _ _ _ _ _ (c .before .before .before .loop .inv) (c .before .before .if1 .taken) in omega arith
+
+cast-end : tie.Need-cast-end Inv-loop μ-loop
+cast-end c = search needs
 
 add-end : tie.Need-add-end Inv-loop μ-loop
-add-end c = let w = fits-now _ _ _ _ _ _ _ _ _ (c .before .before .before .before .before .loop .inv) (c .before .before .before .before .if1 .taken) in omega arith
+add-end c = let w = fits-now _ _ _ _ _ _ _ _ _ (c .before .before .before .before .loop .inv) (c .before .before .before .if1 .taken) in omega arith
+
+sub-field : tie.Need-sub-field Inv-loop μ-loop
+sub-field c = let w = fits-now _ _ _ _ _ _ _ _ _ (c .before .before .before .before .loop .inv) (c .before .before .before .if1 .taken) in omega arith
+
+part-field-start : tie.Need-part-field-start Inv-loop μ-loop
+part-field-start c = let w = fits-now _ _ _ _ _ _ _ _ _ (c .before .before .before .before .loop .inv) (c .before .before .before .if1 .taken) in omega arith
+
+part-field-end : tie.Need-part-field-end Inv-loop μ-loop
+part-field-end c = let w = fits-now _ _ _ _ _ _ _ _ _ (c .before .before .before .before .loop .inv) (c .before .before .before .if1 .taken) in omega arith
+
+field-requires : tie.Need-field-requires Inv-loop μ-loop
+field-requires c κs = search needs
 
 key-requires : tie.Need-key-requires Inv-loop μ-loop
 key-requires c κs = search needs
@@ -67,17 +87,11 @@ place-of-requires c κs = search needs
 stands-at-requires : tie.Need-stands-at-requires Inv-loop μ-loop
 stands-at-requires c κs = search needs
 
-mul-shown : tie.Need-mul-shown Inv-loop μ-loop
-mul-shown c = let w = place-short _ _ _ _ _ _ _ _ _ (c .before .before .before .before .before .before .before .before .before .before .before .before .before .before .before .loop .inv) _ _ (sym (c .before .stands-at .ensures) ∙ c .if2 .taken) in omega arith
-
-element-copy-out-shown : tie.Need-element-copy-out-shown Inv-loop μ-loop
-element-copy-out-shown c = let w = place-short _ _ _ _ _ _ _ _ _ (c .before .before .before .before .before .before .before .before .before .before .before .before .before .before .before .loop .inv) _ _ (sym (c .before .stands-at .ensures) ∙ c .if2 .taken) in omega arith
-
 mul-draft : tie.Need-mul-draft Inv-loop μ-loop
-mul-draft c = let w = place-short _ _ _ _ _ _ _ _ _ (c .before .before .before .before .before .before .before .before .before .before .before .before .before .before .before .before .loop .inv) _ _ (sym (c .before .before .stands-at .ensures) ∙ c .before .if2 .taken) in omega arith
+mul-draft c = let w = place-short _ _ _ _ _ _ _ _ _ (c .before .before .before .before .before .before .before .before .before .before .before .before .before .before .before .before .loop .inv) _ _ (sym (c .before .stands-at .ensures) ∙ c .if2 .taken) in omega arith
 
 element-copy-out-draft : tie.Need-element-copy-out-draft Inv-loop μ-loop
-element-copy-out-draft c = let w = place-short _ _ _ _ _ _ _ _ _ (c .before .before .before .before .before .before .before .before .before .before .before .before .before .before .before .before .loop .inv) _ _ (sym (c .before .before .stands-at .ensures) ∙ c .before .if2 .taken) in omega arith
+element-copy-out-draft c = let w = place-short _ _ _ _ _ _ _ _ _ (c .before .before .before .before .before .before .before .before .before .before .before .before .before .before .before .before .loop .inv) _ _ (sym (c .before .stands-at .ensures) ∙ c .if2 .taken) in omega arith
 
 sub-on-held : tie.Need-sub-on-held Inv-loop μ-loop
 sub-on-held c = let w = fits-now _ _ _ _ _ _ _ _ _ (c .before .before .before .before .before .before .before .before .before .before .before .before .before .before .before .before .before .loop .inv) (c .before .before .before .before .before .before .before .before .before .before .before .before .before .before .before .before .if1 .taken) in omega arith
@@ -91,20 +105,20 @@ part-on-held-end c = let w = fits-now _ _ _ _ _ _ _ _ _ (c .before .before .befo
 on-held-requires : tie.Need-on-held-requires Inv-loop μ-loop
 on-held-requires c κs = search needs
 
-mul-new-shown : tie.Need-mul-new-shown Inv-loop μ-loop
-mul-new-shown c = let w = place-short _ _ _ _ _ _ _ _ _ (c .before .before .before .before .before .before .before .before .before .before .before .before .before .before .before .before .before .before .before .before .before .loop .inv) _ _ (sym (c .before .before .before .before .before .before .before .stands-at .ensures) ∙ c .before .before .before .before .before .before .if2 .taken) in omega arith
+mul-draft-2 : tie.Need-mul-draft-2 Inv-loop μ-loop
+mul-draft-2 c = let w = place-short _ _ _ _ _ _ _ _ _ (c .before .before .before .before .before .before .before .before .before .before .before .before .before .before .before .before .before .before .before .before .before .loop .inv) _ _ (sym (c .before .before .before .before .before .before .stands-at .ensures) ∙ c .before .before .before .before .before .if2 .taken) in omega arith
 
-element-set-from-new-shown : tie.Need-element-set-from-new-shown Inv-loop μ-loop
-element-set-from-new-shown c = let w = place-short _ _ _ _ _ _ _ _ _ (c .before .before .before .before .before .before .before .before .before .before .before .before .before .before .before .before .before .before .before .before .before .loop .inv) _ _ (sym (c .before .before .before .before .before .before .before .stands-at .ensures) ∙ c .before .before .before .before .before .before .if2 .taken) in omega arith
+element-set-from-draft : tie.Need-element-set-from-draft Inv-loop μ-loop
+element-set-from-draft c = let w = place-short _ _ _ _ _ _ _ _ _ (c .before .before .before .before .before .before .before .before .before .before .before .before .before .before .before .before .before .before .before .before .before .loop .inv) _ _ (sym (c .before .before .before .before .before .before .stands-at .ensures) ∙ c .before .before .before .before .before .if2 .taken) in omega arith
 
-mul-new-draft : tie.Need-mul-new-draft Inv-loop μ-loop
-mul-new-draft c = let w = place-short _ _ _ _ _ _ _ _ _ (c .before .before .before .before .before .before .before .before .before .before .before .before .before .before .before .before .before .before .before .before .before .loop .inv) _ _ (sym (c .before .before .before .before .before .before .before .stands-at .ensures) ∙ c .before .before .before .before .before .before .if2 .taken) in omega arith
+mul-left : tie.Need-mul-left Inv-loop μ-loop
+mul-left c = let w = place-short _ _ _ _ _ _ _ _ _ (c .before .before .before .before .before .before .before .before .before .before .before .before .before .before .before .before .before .before .before .before .before .loop .inv) _ _ (sym (c .before .before .before .before .before .before .stands-at .ensures) ∙ c .before .before .before .before .before .if2 .taken) in omega arith
 
-element-set-from-new-draft : tie.Need-element-set-from-new-draft Inv-loop μ-loop
-element-set-from-new-draft c = let w = place-short _ _ _ _ _ _ _ _ _ (c .before .before .before .before .before .before .before .before .before .before .before .before .before .before .before .before .before .before .before .before .before .loop .inv) _ _ (sym (c .before .before .before .before .before .before .before .stands-at .ensures) ∙ c .before .before .before .before .before .before .if2 .taken) in omega arith
+element-set-from-left : tie.Need-element-set-from-left Inv-loop μ-loop
+element-set-from-left c = let w = place-short _ _ _ _ _ _ _ _ _ (c .before .before .before .before .before .before .before .before .before .before .before .before .before .before .before .before .before .before .before .before .before .loop .inv) _ _ (sym (c .before .before .before .before .before .before .stands-at .ensures) ∙ c .before .before .before .before .before .if2 .taken) in omega arith
 
 element-write-t : tie.Need-element-write-t Inv-loop μ-loop
-element-write-t c = let w = place-short _ _ _ _ _ _ _ _ _ (c .before .before .before .before .before .before .before .before .before .before .before .before .before .before .before .before .before .before .before .before .before .before .loop .inv) _ _ (sym (c .before .before .before .before .before .before .before .before .stands-at .ensures) ∙ c .before .before .before .before .before .before .before .if2 .taken) in omega arith
+element-write-t c = let w = place-short _ _ _ _ _ _ _ _ _ (c .before .before .before .before .before .before .before .before .before .before .before .before .before .before .before .before .before .before .before .before .before .before .loop .inv) _ _ (sym (c .before .before .before .before .before .before .before .stands-at .ensures) ∙ c .before .before .before .before .before .before .if2 .taken) in omega arith
 
 noted-requires : tie.Need-noted-requires Inv-loop μ-loop
 noted-requires c κs = fits-now _ _ _ _ _ _ _ _ _ (c .before .before .before .before .before .before .before .before .before .before .before .before .before .before .before .before .before .before .before .before .before .before .loop .inv) (c .before .before .before .before .before .before .before .before .before .before .before .before .before .before .before .before .before .before .before .before .before .if1 .taken) .few
@@ -117,7 +131,18 @@ loop-less c = let w = c .before .before .before .before .before .before .before 
 
 loop-again : tie.Need-loop-again Inv-loop μ-loop
 unfolding setAt
-loop-again c = turn-held _ _ _ _ _ _ _ _ _ (c .before .before .before .before .before .before .before .before .before .before .before .before .before .before .before .before .before .before .before .before .before .before .before .loop .inv) (c .before .before .before .before .before .before .before .before .before .before .before .before .before .before .before .before .before .before .before .before .before .before .if1 .taken) _ (body-of (c .before .before .before .before .before .before .before .before .before .before .before .before .before .before .before .before .before .before .before .before .before .before .before .before .before .before .before .args .bytes .now) (c .before .before .before .before .before .before .before .before .before .before .before .before .before .before .before .before .before .before .before .before .before .before .before .loop .from) (getD (c .before .before .before .before .before .before .before .before .before .before .before .before .before .before .before .before .before .before .before .before .before .before .before .loop .spots .spots) (c .before .before .before .before .before .before .before .before .before .before .before .before .before .before .before .before .before .before .before .before .before .before .before .loop .i) noSpot) (fits-now _ _ _ _ _ _ _ _ _ (c .before .before .before .before .before .before .before .before .before .before .before .before .before .before .before .before .before .before .before .before .before .before .before .loop .inv) (c .before .before .before .before .before .before .before .before .before .before .before .before .before .before .before .before .before .before .before .before .before .before .if1 .taken) .ordered) (fits-now _ _ _ _ _ _ _ _ _ (c .before .before .before .before .before .before .before .before .before .before .before .before .before .before .before .before .before .before .before .before .before .before .before .loop .inv) (c .before .before .before .before .before .before .before .before .before .before .before .before .before .before .before .before .before .before .before .before .before .before .if1 .taken) .inside)) _ (c .before .before .before .before .before .before .before .before .before .before .before .before .before .before .before .before .before .key .ensures) _ (c .before .before .before .before .before .before .before .before .before .before .before .before .before .place-of .ensures) (sym (c .before .before .before .before .before .before .before .before .before .stands-at .ensures) ∙ c .before .before .before .before .before .before .before .before .if2 .taken) (c .before .before .before .before .on-held .result) (c .before .before .before .before .on-held .ensures) _ (c .noted .ensures)
+loop-again c =
+    let l = c .before .before .before .before .before .before .before .before .before .before .before .before .before .before .before .before .before .before .before .before .before .before .before .loop in
+    let h = c .before .before .before .before .before .before .before .before .before .before .before .before .before .before .before .before .before .before .before .before .before .before .if1 .taken in
+    let w = fits-now _ _ _ _ _ _ _ _ _ (l .inv) h in
+    let body-is = body-of (c .before .before .before .before .before .before .before .before .before .before .before .before .before .before .before .before .before .before .before .before .before .before .before .before .before .before .before .args .bytes .now) (l .from) (getD (l .spots .spots) (l .i) noSpot) (w .ordered) (w .inside) in
+    let b = sym (c .before .before .before .before .before .before .before .before .stands-at .ensures) ∙ c .before .before .before .before .before .before .before .if2 .taken in
+    ⊎-elim
+    (λ v. turn-shows _ _ _ _ _ _ _ _ _ (l .inv) h _ body-is _ (c .before .before .before .before .before .before .before .before .before .before .before .before .before .before .before .before .before .field .ensures) _ (c .before .before .before .before .before .before .before .before .before .before .before .before .before .before .before .before .key .ensures) _ (c .before .before .before .before .before .before .before .before .before .before .before .before .place-of .ensures) b
+      (c .before .before .before .before .on-held .result) (c .before .before .before .before .on-held .ensures) _ _ (c .noted .ensures) (v .0 .taken) (v .1))
+    (λ v. turn-keeps _ _ _ _ _ _ _ _ _ (l .inv) h _ body-is _ (c .before .before .before .before .before .before .before .before .before .before .before .before .before .before .before .before .before .field .ensures) _ (c .before .before .before .before .before .before .before .before .before .before .before .before .before .before .before .before .key .ensures) _ (c .before .before .before .before .before .before .before .before .before .before .before .before .place-of .ensures) b
+      (c .before .before .before .before .on-held .result) (c .before .before .before .before .on-held .ensures) _ _ (c .noted .ensures) (v .0 .left) (v .1))
+    (c .before .before .if3 .came)
 
 opens-requires : tie.Need-opens-requires Inv-loop μ-loop
 opens-requires c κs = search needs
@@ -126,13 +151,13 @@ empty-requires : tie.Need-empty-requires Inv-loop μ-loop
 empty-requires c κs = search needs
 
 sub-with-field : tie.Need-sub-with-field Inv-loop μ-loop
-sub-with-field c = let w = fits-now _ _ _ _ _ _ _ _ _ (c .before .before .before .before .before .before .before .before .before .before .before .before .before .before .before .before .before .before .loop .inv) (c .before .before .before .before .before .before .before .before .before .before .before .before .before .before .before .before .before .if1 .taken) in omega arith
+sub-with-field c = let w = fits-now _ _ _ _ _ _ _ _ _ (c .before .before .before .before .before .before .before .before .before .before .before .before .before .before .before .before .before .before .before .loop .inv) (c .before .before .before .before .before .before .before .before .before .before .before .before .before .before .before .before .before .before .if1 .taken) in omega arith
 
 part-with-field-start : tie.Need-part-with-field-start Inv-loop μ-loop
-part-with-field-start c = let w = fits-now _ _ _ _ _ _ _ _ _ (c .before .before .before .before .before .before .before .before .before .before .before .before .before .before .before .before .before .before .loop .inv) (c .before .before .before .before .before .before .before .before .before .before .before .before .before .before .before .before .before .if1 .taken) in omega arith
+part-with-field-start c = let w = fits-now _ _ _ _ _ _ _ _ _ (c .before .before .before .before .before .before .before .before .before .before .before .before .before .before .before .before .before .before .before .loop .inv) (c .before .before .before .before .before .before .before .before .before .before .before .before .before .before .before .before .before .before .if1 .taken) in omega arith
 
 part-with-field-end : tie.Need-part-with-field-end Inv-loop μ-loop
-part-with-field-end c = let w = fits-now _ _ _ _ _ _ _ _ _ (c .before .before .before .before .before .before .before .before .before .before .before .before .before .before .before .before .before .before .loop .inv) (c .before .before .before .before .before .before .before .before .before .before .before .before .before .before .before .before .before .if1 .taken) in omega arith
+part-with-field-end c = let w = fits-now _ _ _ _ _ _ _ _ _ (c .before .before .before .before .before .before .before .before .before .before .before .before .before .before .before .before .before .before .before .loop .inv) (c .before .before .before .before .before .before .before .before .before .before .before .before .before .before .before .before .before .before .if1 .taken) in omega arith
 
 with-field-requires : tie.Need-with-field-requires Inv-loop μ-loop
 with-field-requires c κs = search needs
@@ -141,37 +166,50 @@ opened-at-requires : tie.Need-opened-at-requires Inv-loop μ-loop
 opened-at-requires c κs = search needs
 
 noted-requires-2 : tie.Need-noted-requires-2 Inv-loop μ-loop
-noted-requires-2 c κs = fits-now _ _ _ _ _ _ _ _ _ (c .before .before .before .before .before .before .before .before .before .before .before .before .before .before .before .before .before .before .before .before .before .before .before .loop .inv) (c .before .before .before .before .before .before .before .before .before .before .before .before .before .before .before .before .before .before .before .before .before .before .if1 .taken) .few
+noted-requires-2 c κs = fits-now _ _ _ _ _ _ _ _ _ (c .before .before .before .before .before .before .before .before .before .before .before .before .before .before .before .before .before .before .before .before .before .before .before .before .loop .inv) (c .before .before .before .before .before .before .before .before .before .before .before .before .before .before .before .before .before .before .before .before .before .before .before .if1 .taken) .few
 
 add-i-2 : tie.Need-add-i-2 Inv-loop μ-loop
-add-i-2 c = let w = fits-now _ _ _ _ _ _ _ _ _ (c .before .before .before .before .before .before .before .before .before .before .before .before .before .before .before .before .before .before .before .before .before .before .before .before .loop .inv) (c .before .before .before .before .before .before .before .before .before .before .before .before .before .before .before .before .before .before .before .before .before .before .before .if1 .taken) in omega arith
+add-i-2 c = let w = fits-now _ _ _ _ _ _ _ _ _ (c .before .before .before .before .before .before .before .before .before .before .before .before .before .before .before .before .before .before .before .before .before .before .before .before .before .loop .inv) (c .before .before .before .before .before .before .before .before .before .before .before .before .before .before .before .before .before .before .before .before .before .before .before .before .if1 .taken) in omega arith
 
 loop-less-2 : tie.Need-loop-less-2 Inv-loop μ-loop
-loop-less-2 c = let w = c .before .before .before .before .before .before .before .before .before .before .before .before .before .before .before .before .before .before .before .before .before .before .before .if1 .taken in omega arith
+loop-less-2 c = let w = c .before .before .before .before .before .before .before .before .before .before .before .before .before .before .before .before .before .before .before .before .before .before .before .before .if1 .taken in omega arith
 
 loop-again-2 : tie.Need-loop-again-2 Inv-loop μ-loop
-loop-again-2 c = turn-new _ _ _ _ _ _ _ _ _ (c .before .before .before .before .before .before .before .before .before .before .before .before .before .before .before .before .before .before .before .before .before .before .before .before .loop .inv) (c .before .before .before .before .before .before .before .before .before .before .before .before .before .before .before .before .before .before .before .before .before .before .before .if1 .taken) _ (body-of (c .before .before .before .before .before .before .before .before .before .before .before .before .before .before .before .before .before .before .before .before .before .before .before .before .before .before .before .before .args .bytes .now) (c .before .before .before .before .before .before .before .before .before .before .before .before .before .before .before .before .before .before .before .before .before .before .before .before .loop .from) (getD (c .before .before .before .before .before .before .before .before .before .before .before .before .before .before .before .before .before .before .before .before .before .before .before .before .loop .spots .spots) (c .before .before .before .before .before .before .before .before .before .before .before .before .before .before .before .before .before .before .before .before .before .before .before .before .loop .i) noSpot) (fits-now _ _ _ _ _ _ _ _ _ (c .before .before .before .before .before .before .before .before .before .before .before .before .before .before .before .before .before .before .before .before .before .before .before .before .loop .inv) (c .before .before .before .before .before .before .before .before .before .before .before .before .before .before .before .before .before .before .before .before .before .before .before .if1 .taken) .ordered) (fits-now _ _ _ _ _ _ _ _ _ (c .before .before .before .before .before .before .before .before .before .before .before .before .before .before .before .before .before .before .before .before .before .before .before .before .loop .inv) (c .before .before .before .before .before .before .before .before .before .before .before .before .before .before .before .before .before .before .before .before .before .before .before .if1 .taken) .inside)) _ (c .before .before .before .before .before .before .before .before .before .before .before .before .before .before .before .before .before .before .key .ensures) _ (c .before .before .before .before .before .before .before .before .before .before .before .before .before .before .place-of .ensures) (sym (c .before .before .before .before .before .before .before .before .before .before .stands-at .ensures) ∙ c .before .before .before .before .before .before .before .before .before .if2 .left) (sym (c .before .before .before .before .before .before .before .before .opens .ensures) ∙ c .before .before .before .before .before .before .before .if3 .taken) (λ j. c .before .before .before .before .before .before .before .before .before .before .before .before .before .before .before .before .before .before .before .before .before .before .before .before .before .before .before .shared-slice-known .given j .fits) (c .before .before .before .before .before .before .empty .result) (c .before .before .before .before .with-field .result) (c .before .before .before .before .before .before .empty .ensures) (c .before .before .before .before .with-field .ensures) _ (c .before .opened-at .ensures) _ (c .noted2 .ensures)
+loop-again-2 c =
+    let l = c .before .before .before .before .before .before .before .before .before .before .before .before .before .before .before .before .before .before .before .before .before .before .before .before .before .loop in
+    let h = c .before .before .before .before .before .before .before .before .before .before .before .before .before .before .before .before .before .before .before .before .before .before .before .before .if1 .taken in
+    let w = fits-now _ _ _ _ _ _ _ _ _ (l .inv) h in
+    let body-is = body-of (c .before .before .before .before .before .before .before .before .before .before .before .before .before .before .before .before .before .before .before .before .before .before .before .before .before .before .before .before .before .args .bytes .now) (l .from) (getD (l .spots .spots) (l .i) noSpot) (w .ordered) (w .inside) in
+    turn-new _ _ _ _ _ _ _ _ _ (l .inv) h _ body-is _ (c .before .before .before .before .before .before .before .before .before .before .before .before .before .before .before .before .before .before .before .field .ensures) _ (c .before .before .before .before .before .before .before .before .before .before .before .before .before .before .before .before .before .before .key .ensures) _ (c .before .before .before .before .before .before .before .before .before .before .before .before .before .before .place-of .ensures)
+    (sym (c .before .before .before .before .before .before .before .before .before .before .stands-at .ensures) ∙ c .before .before .before .before .before .before .before .before .before .if2 .left) (sym (c .before .before .before .before .before .before .before .before .opens .ensures) ∙ c .before .before .before .before .before .before .before .if4 .taken) (λ j. c .before .before .before .before .before .before .before .before .before .before .before .before .before .before .before .before .before .before .before .before .before .before .before .before .before .before .before .before .shared-slice-known .given j .fits)
+    (c .before .before .before .before .before .before .empty .result) (c .before .before .before .before .with-field .result) (c .before .before .before .before .before .before .empty .ensures) (c .before .before .before .before .with-field .ensures) _ (c .before .opened-at .ensures) _ (c .noted2 .ensures)
 
 unheld-note-requires : tie.Need-unheld-note-requires Inv-loop μ-loop
 unheld-note-requires c κs = search needs
 
 noted-requires-3 : tie.Need-noted-requires-3 Inv-loop μ-loop
-noted-requires-3 c κs = fits-now _ _ _ _ _ _ _ _ _ (c .before .before .before .before .before .before .before .before .before .before .before .before .before .before .before .before .before .before .loop .inv) (c .before .before .before .before .before .before .before .before .before .before .before .before .before .before .before .before .before .if1 .taken) .few
+noted-requires-3 c κs = fits-now _ _ _ _ _ _ _ _ _ (c .before .before .before .before .before .before .before .before .before .before .before .before .before .before .before .before .before .before .before .loop .inv) (c .before .before .before .before .before .before .before .before .before .before .before .before .before .before .before .before .before .before .if1 .taken) .few
 
 add-i-3 : tie.Need-add-i-3 Inv-loop μ-loop
-add-i-3 c = let w = fits-now _ _ _ _ _ _ _ _ _ (c .before .before .before .before .before .before .before .before .before .before .before .before .before .before .before .before .before .before .before .loop .inv) (c .before .before .before .before .before .before .before .before .before .before .before .before .before .before .before .before .before .before .if1 .taken) in omega arith
+add-i-3 c = let w = fits-now _ _ _ _ _ _ _ _ _ (c .before .before .before .before .before .before .before .before .before .before .before .before .before .before .before .before .before .before .before .before .loop .inv) (c .before .before .before .before .before .before .before .before .before .before .before .before .before .before .before .before .before .before .before .if1 .taken) in omega arith
 
 loop-less-3 : tie.Need-loop-less-3 Inv-loop μ-loop
-loop-less-3 c = let w = c .before .before .before .before .before .before .before .before .before .before .before .before .before .before .before .before .before .before .if1 .taken in omega arith
+loop-less-3 c = let w = c .before .before .before .before .before .before .before .before .before .before .before .before .before .before .before .before .before .before .before .if1 .taken in omega arith
 
 loop-again-3 : tie.Need-loop-again-3 Inv-loop μ-loop
-loop-again-3 c = turn-same _ _ _ _ _ _ _ _ _ (c .before .before .before .before .before .before .before .before .before .before .before .before .before .before .before .before .before .before .before .loop .inv) (c .before .before .before .before .before .before .before .before .before .before .before .before .before .before .before .before .before .before .if1 .taken) _ (body-of (c .before .before .before .before .before .before .before .before .before .before .before .before .before .before .before .before .before .before .before .before .before .before .before .args .bytes .now) (c .before .before .before .before .before .before .before .before .before .before .before .before .before .before .before .before .before .before .before .loop .from) (getD (c .before .before .before .before .before .before .before .before .before .before .before .before .before .before .before .before .before .before .before .loop .spots .spots) (c .before .before .before .before .before .before .before .before .before .before .before .before .before .before .before .before .before .before .before .loop .i) noSpot) (fits-now _ _ _ _ _ _ _ _ _ (c .before .before .before .before .before .before .before .before .before .before .before .before .before .before .before .before .before .before .before .loop .inv) (c .before .before .before .before .before .before .before .before .before .before .before .before .before .before .before .before .before .before .if1 .taken) .ordered) (fits-now _ _ _ _ _ _ _ _ _ (c .before .before .before .before .before .before .before .before .before .before .before .before .before .before .before .before .before .before .before .loop .inv) (c .before .before .before .before .before .before .before .before .before .before .before .before .before .before .before .before .before .before .if1 .taken) .inside)) _ (c .before .before .before .before .before .before .before .before .before .before .before .before .before .key .ensures) _ (c .before .before .before .before .before .before .before .before .before .place-of .ensures) (sym (c .before .before .before .before .before .stands-at .ensures) ∙ c .before .before .before .before .if2 .left) (sym (c .before .before .before .opens .ensures) ∙ c .before .before .if3 .left) (c .before .unheld-note .result) (c .before .unheld-note .ensures) _ (c .noted3 .ensures)
+loop-again-3 c =
+    let l = c .before .before .before .before .before .before .before .before .before .before .before .before .before .before .before .before .before .before .before .before .loop in
+    let h = c .before .before .before .before .before .before .before .before .before .before .before .before .before .before .before .before .before .before .before .if1 .taken in
+    let w = fits-now _ _ _ _ _ _ _ _ _ (l .inv) h in
+    let body-is = body-of (c .before .before .before .before .before .before .before .before .before .before .before .before .before .before .before .before .before .before .before .before .before .before .before .before .args .bytes .now) (l .from) (getD (l .spots .spots) (l .i) noSpot) (w .ordered) (w .inside) in
+    turn-same _ _ _ _ _ _ _ _ _ (l .inv) h _ body-is _ (c .before .before .before .before .before .before .before .before .before .before .before .before .before .before .field .ensures) _ (c .before .before .before .before .before .before .before .before .before .before .before .before .before .key .ensures) _ (c .before .before .before .before .before .before .before .before .before .place-of .ensures)
+    (sym (c .before .before .before .before .before .stands-at .ensures) ∙ c .before .before .before .before .if2 .left) (sym (c .before .before .before .opens .ensures) ∙ c .before .before .if4 .left) (c .before .unheld-note .result) (c .before .unheld-note .ensures) _ (c .noted3 .ensures)
 
-sub-if4 : tie.Need-sub-if4 Inv-loop μ-loop
-sub-if4 c = search needs
+sub-if5 : tie.Need-sub-if5 Inv-loop μ-loop
+sub-if5 c = search needs
 
 returns : tie.Need-returns Inv-loop μ-loop
-returns c = going-end _ _ _ _ _ _ _ _ _ (c .before .before .loop .inv) (c .before .if1 .left) (c .if4 .taken)
+returns c = going-end _ _ _ _ _ _ _ _ _ (c .before .before .loop .inv) (c .before .if1 .left) (c .if5 .taken)
 
 add-at : tie.Need-add-at Inv-loop μ-loop
 add-at c = search needs
@@ -198,16 +236,16 @@ empty-requires-2 : tie.Need-empty-requires-2 Inv-loop μ-loop
 empty-requires-2 c κs = search needs
 
 loop-less-4 : tie.Need-loop-less-4 Inv-loop μ-loop
-loop-less-4 c = let w = judged-few _ _ (c .before .before .before .before .before .before .judge .ensures) in let z = c .before .before .before .before .before .before .before .before .before .if1 .left in let y = c .before .before .before .before .before .before .before .before .if4 .left in omega arith
+loop-less-4 c = let w = judged-few _ _ (c .before .before .before .before .before .before .judge .ensures) in let z = c .before .before .before .before .before .before .before .before .before .if1 .left in let y = c .before .before .before .before .before .before .before .before .if5 .left in omega arith
 
 loop-again-4 : tie.Need-loop-again-4 Inv-loop μ-loop
-loop-again-4 c = turn-refused _ _ _ _ _ _ _ _ _ (c .before .before .before .before .before .before .before .before .before .before .loop .inv) (c .before .before .before .before .before .before .before .before .before .if1 .left) (c .before .before .before .before .before .before .before .before .if4 .left) (λ j. c .before .before .before .before .before .before .before .before .before .before .before .before .before .shared-slice-known .given j .fits) _ (block-part (c .before .before .before .before .before .before .before .before .before .before .before .before .before .before .args .bytes .now) (c .before .before .before .before .before .before .before .before .before .before .loop .at)) (c .before .before .before .before .before .before .judge .result) _ (c .before .before .before .before .none2 .ensures) (c .before .before .before .before .before .before .judge .ensures) (sym (c .before .before .before .is-done .ensures) ∙ not-true _ (c .before .before .if5 .taken)) _ (c .before .empty2 .ensures)
+loop-again-4 c = turn-refused _ _ _ _ _ _ _ _ _ (c .before .before .before .before .before .before .before .before .before .before .loop .inv) (c .before .before .before .before .before .before .before .before .before .if1 .left) (c .before .before .before .before .before .before .before .before .if5 .left) (λ j. c .before .before .before .before .before .before .before .before .before .before .before .before .before .shared-slice-known .given j .fits) _ (block-part (c .before .before .before .before .before .before .before .before .before .before .before .before .before .before .args .bytes .now) (c .before .before .before .before .before .before .before .before .before .before .loop .at)) (c .before .before .before .before .before .before .judge .result) _ (c .before .before .before .before .none2 .ensures) (c .before .before .before .before .before .before .judge .ensures) (sym (c .before .before .before .is-done .ensures) ∙ not-true _ (c .before .before .if6 .taken)) _ (c .before .empty2 .ensures)
 
 loop-less-5 : tie.Need-loop-less-5 Inv-loop μ-loop
-loop-less-5 c = let w = judged-few _ _ (c .before .before .before .before .judge .ensures) in let z = c .before .before .before .before .before .before .before .if1 .left in let y = c .before .before .before .before .before .before .if4 .left in omega arith
+loop-less-5 c = let w = judged-few _ _ (c .before .before .before .before .judge .ensures) in let z = c .before .before .before .before .before .before .before .if1 .left in let y = c .before .before .before .before .before .before .if5 .left in omega arith
 
 loop-again-5 : tie.Need-loop-again-5 Inv-loop μ-loop
-loop-again-5 c = turn-taken _ _ _ _ _ _ _ _ _ (c .before .before .before .before .before .before .before .before .loop .inv) (c .before .before .before .before .before .before .before .if1 .left) (c .before .before .before .before .before .before .if4 .left) (λ j. c .before .before .before .before .before .before .before .before .before .before .before .shared-slice-known .given j .fits) _ (block-part (c .before .before .before .before .before .before .before .before .before .before .before .before .args .bytes .now) (c .before .before .before .before .before .before .before .before .loop .at)) (c .before .before .before .before .judge .result) _ (c .before .before .none2 .ensures) (c .before .before .before .before .judge .ensures) (sym (c .before .is-done .ensures) ∙ not-false _ (c .if5 .left))
+loop-again-5 c = turn-taken _ _ _ _ _ _ _ _ _ (c .before .before .before .before .before .before .before .before .loop .inv) (c .before .before .before .before .before .before .before .if1 .left) (c .before .before .before .before .before .before .if5 .left) (λ j. c .before .before .before .before .before .before .before .before .before .before .before .shared-slice-known .given j .fits) _ (block-part (c .before .before .before .before .before .before .before .before .before .before .before .before .args .bytes .now) (c .before .before .before .before .before .before .before .before .loop .at)) (c .before .before .before .before .judge .result) _ (c .before .before .none2 .ensures) (c .before .before .before .before .judge .ensures) (sym (c .before .is-done .ensures) ∙ not-false _ (c .if6 .left))
 
 pub run-blocks-spec : {M : Type 1} → statement M
 run-blocks-spec =
@@ -220,23 +258,27 @@ run-blocks-spec =
     loop-holds
     mul-spot
     element-copy-out-spot
+    cast-start
     add-start
+    cast-end
     add-end
+    sub-field
+    part-field-start
+    part-field-end
+    field-requires
     key-requires
     place-of-requires
     stands-at-requires
-    mul-shown
-    element-copy-out-shown
     mul-draft
     element-copy-out-draft
     sub-on-held
     part-on-held-start
     part-on-held-end
     on-held-requires
-    mul-new-shown
-    element-set-from-new-shown
-    mul-new-draft
-    element-set-from-new-draft
+    mul-draft-2
+    element-set-from-draft
+    mul-left
+    element-set-from-left
     element-write-t
     noted-requires
     add-i
@@ -258,7 +300,7 @@ run-blocks-spec =
     add-i-3
     loop-less-3
     loop-again-3
-    sub-if4
+    sub-if5
     returns
     add-at
     sub-judge
