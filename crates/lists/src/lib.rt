@@ -211,10 +211,10 @@ impl IdList {
 
 // ---- adding a field's identifiers
 
-// What adding hands back: whether all fit, and the list with them; or no list.
+// What adding hands back: the list with them, or no list; and whether all fit.
 pub struct Grown {
-    pub fits: bool,
     pub list: IdList,
+    pub fits: bool,
 }
 
 // The kinds that a list with this qualifier names.

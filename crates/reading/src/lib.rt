@@ -24,8 +24,8 @@ use table::Table;
 
 // What a field leaves of a held key's list, whether the list that was open is shown instead of the set, and the note.
 struct Stepped {
-    shows: bool,
     draft: IdList,
+    shows: bool,
     note: Note,
 }
 
