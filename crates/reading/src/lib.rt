@@ -149,6 +149,7 @@ fn run_blocks(table: Table, bytes: &[u8]) -> Answer
     requires { ⌜ Stored table ⌝ }
     ensures { λ r. ⌜ Runs table (now (bytes .entry)) r ⌝ }
 {
+    let closed = [IdList::empty(); 32];
     let mut t = table;
     let mut notes = Notes::none();
     let mut outcome = Outcome::Done;
@@ -199,7 +200,7 @@ fn run_blocks(table: Table, bytes: &[u8]) -> Answer
             notes = Notes::none();
             i = 0;
             if !is_done(outcome) {
-                t.draft = [IdList::empty(); 32];
+                t.draft = closed;
             }
         }
     }

@@ -33,10 +33,13 @@ use Rattle.table.proofs.Table.opened_at.Reads as opened-at-reads
 use Rattle.table.proofs.place_of.Reads as place-of-reads
 
 abbrev Inv-loop : tie.InvT-loop
-Inv-loop bytes t₀ notes₀ outcome₀ spots₀ from₀ at₀ i₀ t notes outcome spots from at i = Going bytes t₀ t notes outcome spots from at i
+Inv-loop bytes closed t₀ notes₀ outcome₀ spots₀ from₀ at₀ i₀ t notes outcome spots from at i = Going bytes t₀ t notes outcome spots from at i
 
 abbrev μ-loop : tie.MeasureT-loop
-μ-loop bytes t₀ notes₀ outcome₀ spots₀ from₀ at₀ i₀ t notes outcome spots from at i = (length bytes - at) + (spots .count - i)
+μ-loop bytes closed t₀ notes₀ outcome₀ spots₀ from₀ at₀ i₀ t notes outcome spots from at i = (length bytes - at) + (spots .count - i)
+
+empty-requires : tie.Need-empty-requires Inv-loop μ-loop
+empty-requires c κs = search needs
 
 none-requires : tie.Need-none-requires Inv-loop μ-loop
 none-requires c κs = search needs
@@ -46,7 +49,7 @@ no-spots-requires c κs = search needs
 
 loop-holds : tie.Need-loop-holds Inv-loop μ-loop
 unfolding Stored
-loop-holds c = going-first _ _ _ _ (c .before .before .before .pre .0) (c .before .before .before .pre .1) (c .before .before .before .pre .2) (c .before .none .ensures) (c .no-spots .ensures)
+loop-holds c = going-first _ _ _ _ (c .before .before .before .before .pre .0) (c .before .before .before .before .pre .1) (c .before .before .before .before .pre .2) (c .before .none .ensures) (c .no-spots .ensures)
 
 mul-spot : tie.Need-mul-spot Inv-loop μ-loop
 mul-spot c = let w = fits-now _ _ _ _ _ _ _ _ _ (c .before .loop .inv) (c .if1 .taken) in omega arith
@@ -135,7 +138,7 @@ loop-again c =
     let l = c .before .before .before .before .before .before .before .before .before .before .before .before .before .before .before .before .before .before .before .before .before .before .before .loop in
     let h = c .before .before .before .before .before .before .before .before .before .before .before .before .before .before .before .before .before .before .before .before .before .before .if1 .taken in
     let w = fits-now _ _ _ _ _ _ _ _ _ (l .inv) h in
-    let body-is = body-of (c .before .before .before .before .before .before .before .before .before .before .before .before .before .before .before .before .before .before .before .before .before .before .before .before .before .before .before .args .bytes .now) (l .from) (getD (l .spots .spots) (l .i) noSpot) (w .ordered) (w .inside) in
+    let body-is = body-of (c .before .before .before .before .before .before .before .before .before .before .before .before .before .before .before .before .before .before .before .before .before .before .before .before .before .before .before .before .args .bytes .now) (l .from) (getD (l .spots .spots) (l .i) noSpot) (w .ordered) (w .inside) in
     let b = sym (c .before .before .before .before .before .before .before .before .stands-at .ensures) ∙ c .before .before .before .before .before .before .before .if2 .taken in
     ⊎-elim
     (λ v. turn-shows _ _ _ _ _ _ _ _ _ (l .inv) h _ body-is _ (c .before .before .before .before .before .before .before .before .before .before .before .before .before .before .before .before .before .field .ensures) _ (c .before .before .before .before .before .before .before .before .before .before .before .before .before .before .before .before .key .ensures) _ (c .before .before .before .before .before .before .before .before .before .before .before .before .place-of .ensures) b
@@ -147,8 +150,8 @@ loop-again c =
 opens-requires : tie.Need-opens-requires Inv-loop μ-loop
 opens-requires c κs = search needs
 
-empty-requires : tie.Need-empty-requires Inv-loop μ-loop
-empty-requires c κs = search needs
+empty-requires-2 : tie.Need-empty-requires-2 Inv-loop μ-loop
+empty-requires-2 c κs = search needs
 
 sub-with-field : tie.Need-sub-with-field Inv-loop μ-loop
 sub-with-field c = let w = fits-now _ _ _ _ _ _ _ _ _ (c .before .before .before .before .before .before .before .before .before .before .before .before .before .before .before .before .before .before .before .loop .inv) (c .before .before .before .before .before .before .before .before .before .before .before .before .before .before .before .before .before .before .if1 .taken) in omega arith
@@ -179,10 +182,10 @@ loop-again-2 c =
     let l = c .before .before .before .before .before .before .before .before .before .before .before .before .before .before .before .before .before .before .before .before .before .before .before .before .before .loop in
     let h = c .before .before .before .before .before .before .before .before .before .before .before .before .before .before .before .before .before .before .before .before .before .before .before .before .if1 .taken in
     let w = fits-now _ _ _ _ _ _ _ _ _ (l .inv) h in
-    let body-is = body-of (c .before .before .before .before .before .before .before .before .before .before .before .before .before .before .before .before .before .before .before .before .before .before .before .before .before .before .before .before .before .args .bytes .now) (l .from) (getD (l .spots .spots) (l .i) noSpot) (w .ordered) (w .inside) in
+    let body-is = body-of (c .before .before .before .before .before .before .before .before .before .before .before .before .before .before .before .before .before .before .before .before .before .before .before .before .before .before .before .before .before .before .args .bytes .now) (l .from) (getD (l .spots .spots) (l .i) noSpot) (w .ordered) (w .inside) in
     turn-new _ _ _ _ _ _ _ _ _ (l .inv) h _ body-is _ (c .before .before .before .before .before .before .before .before .before .before .before .before .before .before .before .before .before .before .before .field .ensures) _ (c .before .before .before .before .before .before .before .before .before .before .before .before .before .before .before .before .before .before .key .ensures) _ (c .before .before .before .before .before .before .before .before .before .before .before .before .before .before .place-of .ensures)
-    (sym (c .before .before .before .before .before .before .before .before .before .before .stands-at .ensures) ∙ c .before .before .before .before .before .before .before .before .before .if2 .left) (sym (c .before .before .before .before .before .before .before .before .opens .ensures) ∙ c .before .before .before .before .before .before .before .if4 .taken) (λ j. c .before .before .before .before .before .before .before .before .before .before .before .before .before .before .before .before .before .before .before .before .before .before .before .before .before .before .before .before .shared-slice-known .given j .fits)
-    (c .before .before .before .before .before .before .empty .result) (c .before .before .before .before .with-field .result) (c .before .before .before .before .before .before .empty .ensures) (c .before .before .before .before .with-field .ensures) _ (c .before .opened-at .ensures) _ (c .noted2 .ensures)
+    (sym (c .before .before .before .before .before .before .before .before .before .before .stands-at .ensures) ∙ c .before .before .before .before .before .before .before .before .before .if2 .left) (sym (c .before .before .before .before .before .before .before .before .opens .ensures) ∙ c .before .before .before .before .before .before .before .if4 .taken) (λ j. c .before .before .before .before .before .before .before .before .before .before .before .before .before .before .before .before .before .before .before .before .before .before .before .before .before .before .before .before .before .shared-slice-known .given j .fits)
+    (c .before .before .before .before .before .before .empty2 .result) (c .before .before .before .before .with-field .result) (c .before .before .before .before .before .before .empty2 .ensures) (c .before .before .before .before .with-field .ensures) _ (c .before .opened-at .ensures) _ (c .noted2 .ensures)
 
 unheld-note-requires : tie.Need-unheld-note-requires Inv-loop μ-loop
 unheld-note-requires c κs = search needs
@@ -201,7 +204,7 @@ loop-again-3 c =
     let l = c .before .before .before .before .before .before .before .before .before .before .before .before .before .before .before .before .before .before .before .before .loop in
     let h = c .before .before .before .before .before .before .before .before .before .before .before .before .before .before .before .before .before .before .before .if1 .taken in
     let w = fits-now _ _ _ _ _ _ _ _ _ (l .inv) h in
-    let body-is = body-of (c .before .before .before .before .before .before .before .before .before .before .before .before .before .before .before .before .before .before .before .before .before .before .before .before .args .bytes .now) (l .from) (getD (l .spots .spots) (l .i) noSpot) (w .ordered) (w .inside) in
+    let body-is = body-of (c .before .before .before .before .before .before .before .before .before .before .before .before .before .before .before .before .before .before .before .before .before .before .before .before .before .args .bytes .now) (l .from) (getD (l .spots .spots) (l .i) noSpot) (w .ordered) (w .inside) in
     turn-same _ _ _ _ _ _ _ _ _ (l .inv) h _ body-is _ (c .before .before .before .before .before .before .before .before .before .before .before .before .before .before .field .ensures) _ (c .before .before .before .before .before .before .before .before .before .before .before .before .before .key .ensures) _ (c .before .before .before .before .before .before .before .before .before .place-of .ensures)
     (sym (c .before .before .before .before .before .stands-at .ensures) ∙ c .before .before .before .before .if2 .left) (sym (c .before .before .before .opens .ensures) ∙ c .before .before .if4 .left) (c .before .unheld-note .result) (c .before .unheld-note .ensures) _ (c .noted3 .ensures)
 
@@ -232,20 +235,17 @@ none-requires-2 c κs = search needs
 is-done-requires : tie.Need-is-done-requires Inv-loop μ-loop
 is-done-requires c κs = search needs
 
-empty-requires-2 : tie.Need-empty-requires-2 Inv-loop μ-loop
-empty-requires-2 c κs = search needs
-
 loop-less-4 : tie.Need-loop-less-4 Inv-loop μ-loop
-loop-less-4 c = let w = judged-few _ _ (c .before .before .before .before .before .before .judge .ensures) in let z = c .before .before .before .before .before .before .before .before .before .if1 .left in let y = c .before .before .before .before .before .before .before .before .if5 .left in omega arith
+loop-less-4 c = let w = judged-few _ _ (c .before .before .before .before .judge .ensures) in let z = c .before .before .before .before .before .before .before .if1 .left in let y = c .before .before .before .before .before .before .if5 .left in omega arith
 
 loop-again-4 : tie.Need-loop-again-4 Inv-loop μ-loop
-loop-again-4 c = turn-refused _ _ _ _ _ _ _ _ _ (c .before .before .before .before .before .before .before .before .before .before .loop .inv) (c .before .before .before .before .before .before .before .before .before .if1 .left) (c .before .before .before .before .before .before .before .before .if5 .left) (λ j. c .before .before .before .before .before .before .before .before .before .before .before .before .before .shared-slice-known .given j .fits) _ (block-part (c .before .before .before .before .before .before .before .before .before .before .before .before .before .before .args .bytes .now) (c .before .before .before .before .before .before .before .before .before .before .loop .at)) (c .before .before .before .before .before .before .judge .result) _ (c .before .before .before .before .none2 .ensures) (c .before .before .before .before .before .before .judge .ensures) (sym (c .before .before .before .is-done .ensures) ∙ not-true _ (c .before .before .if6 .taken)) _ (c .before .empty2 .ensures)
+loop-again-4 c = turn-refused _ _ _ _ _ _ _ _ _ (c .before .before .before .before .before .before .before .before .loop .inv) (c .before .before .before .before .before .before .before .if1 .left) (c .before .before .before .before .before .before .if5 .left) (λ j. c .before .before .before .before .before .before .before .before .before .before .before .before .shared-slice-known .given j .fits) _ (block-part (c .before .before .before .before .before .before .before .before .before .before .before .before .before .args .bytes .now) (c .before .before .before .before .before .before .before .before .loop .at)) (c .before .before .before .before .judge .result) _ (c .before .before .none2 .ensures) (c .before .before .before .before .judge .ensures) (sym (c .before .is-done .ensures) ∙ not-true _ (c .if6 .taken)) _ (c .before .before .before .before .before .before .before .before .before .before .before .empty .ensures)
 
 loop-less-5 : tie.Need-loop-less-5 Inv-loop μ-loop
 loop-less-5 c = let w = judged-few _ _ (c .before .before .before .before .judge .ensures) in let z = c .before .before .before .before .before .before .before .if1 .left in let y = c .before .before .before .before .before .before .if5 .left in omega arith
 
 loop-again-5 : tie.Need-loop-again-5 Inv-loop μ-loop
-loop-again-5 c = turn-taken _ _ _ _ _ _ _ _ _ (c .before .before .before .before .before .before .before .before .loop .inv) (c .before .before .before .before .before .before .before .if1 .left) (c .before .before .before .before .before .before .if5 .left) (λ j. c .before .before .before .before .before .before .before .before .before .before .before .shared-slice-known .given j .fits) _ (block-part (c .before .before .before .before .before .before .before .before .before .before .before .before .args .bytes .now) (c .before .before .before .before .before .before .before .before .loop .at)) (c .before .before .before .before .judge .result) _ (c .before .before .none2 .ensures) (c .before .before .before .before .judge .ensures) (sym (c .before .is-done .ensures) ∙ not-false _ (c .if6 .left))
+loop-again-5 c = turn-taken _ _ _ _ _ _ _ _ _ (c .before .before .before .before .before .before .before .before .loop .inv) (c .before .before .before .before .before .before .before .if1 .left) (c .before .before .before .before .before .before .if5 .left) (λ j. c .before .before .before .before .before .before .before .before .before .before .before .before .shared-slice-known .given j .fits) _ (block-part (c .before .before .before .before .before .before .before .before .before .before .before .before .before .args .bytes .now) (c .before .before .before .before .before .before .before .before .loop .at)) (c .before .before .before .before .judge .result) _ (c .before .before .none2 .ensures) (c .before .before .before .before .judge .ensures) (sym (c .before .is-done .ensures) ∙ not-false _ (c .if6 .left))
 
 pub run-blocks-spec : {M : Type 1} → statement M
 run-blocks-spec =
@@ -253,6 +253,7 @@ run-blocks-spec =
     (tie.spec
     Inv-loop
     μ-loop
+    empty-requires
     none-requires
     no-spots-requires
     loop-holds
@@ -285,7 +286,7 @@ run-blocks-spec =
     loop-less
     loop-again
     opens-requires
-    empty-requires
+    empty-requires-2
     sub-with-field
     part-with-field-start
     part-with-field-end
@@ -309,7 +310,6 @@ run-blocks-spec =
     judge-requires
     none-requires-2
     is-done-requires
-    empty-requires-2
     loop-less-4
     loop-again-4
     loop-less-5
