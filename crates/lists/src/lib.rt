@@ -26,6 +26,9 @@ pub struct IdList {
 }
 
 impl IdList {
+    // The identifiers that a list holds at most.
+    pub const MOST: usize = 128;
+
     // No list.
     pub fn empty() -> Self
         ensures { λ r. ⌜ r ≡ emptyList ⌝ }
@@ -80,7 +83,7 @@ pub fn zeros_u32(numbers: &[u32], from: usize) -> bool
 }
 
 // The same for bytes.
-pub fn zeros_u8(bytes: &[u8], from: usize) -> bool
+fn zeros_u8(bytes: &[u8], from: usize) -> bool
     ensures { λ r. ⌜ r ≡ allZero (drop from (now (bytes .entry))) ⌝ }
 {
     let mut i = from;
@@ -146,7 +149,7 @@ pub fn names_meet(key: u32, named: u8) -> bool
 }
 
 // Whether every number is within the key's width and every kind among the named.
-pub fn pairs_meet<'a>(key: u32, named: u8, numbers: &'a [u32], kinds: &'a [u8], len: usize) -> bool
+fn pairs_meet<'a>(key: u32, named: u8, numbers: &'a [u32], kinds: &'a [u8], len: usize) -> bool
     ensures { λ r. ⌜ r ≡ pairsMeet (keyWidth key) named (pairsIn (now (kinds .entry)) (now (numbers .entry)) len) ⌝ }
 {
     let end = least(len, least(kinds.len(), numbers.len()));
@@ -164,7 +167,7 @@ pub fn pairs_meet<'a>(key: u32, named: u8, numbers: &'a [u32], kinds: &'a [u8], 
 }
 
 // Whether no pair stands twice.
-pub fn all_differ<'a>(numbers: &'a [u32], kinds: &'a [u8], len: usize) -> bool
+fn all_differ<'a>(numbers: &'a [u32], kinds: &'a [u8], len: usize) -> bool
     ensures { λ r. ⌜ r ≡ allDiffer (pairsIn (now (kinds .entry)) (now (numbers .entry)) len) ⌝ }
 {
     let end = least(len, least(kinds.len(), numbers.len()));
@@ -184,7 +187,7 @@ impl IdList {
         ensures { λ r. ⌜ Tested r (Holds key self) ⌝ }
     {
         let len = self.len;
-        if 128 < len {
+        if Self::MOST < len {
             return false;
         }
         if !zeros_u32(&self.numbers, len) {
@@ -218,7 +221,7 @@ pub struct Grown {
 }
 
 // The kinds that a list with this qualifier names.
-pub fn named_by(qualifier: u8) -> u8
+fn named_by(qualifier: u8) -> u8
     ensures { λ r. ⌜ r ≡ namedBy qualifier ⌝ }
 {
     if qualifier == 1 {
@@ -237,7 +240,7 @@ fn larger(a: u8, b: u8) -> u8
 }
 
 // The named kinds of two lists together.
-pub fn join_names(a: u8, b: u8) -> u8
+fn join_names(a: u8, b: u8) -> u8
     ensures { λ r. ⌜ r ≡ joinNames a b ⌝ }
 {
     larger(a % 2, b % 2) + 2 * larger(a / 2, b / 2)
@@ -259,7 +262,7 @@ impl IdList {
             let number = id.number();
             let len = next.len;
             if !stands_in(&next.numbers, &next.kinds, 0, len, kind, number) {
-                if 128 <= len {
+                if Self::MOST <= len {
                     return Grown { fits: false, list: IdList::empty() };
                 }
                 next.numbers[len] = number;

@@ -59,7 +59,7 @@ fn hex_digit(d: u32) -> u8
 }
 
 // The hexadecimal digit of a number at a place, place 0 the lowest.
-pub fn digit_at(n: u32, place: usize) -> u8
+fn digit_at(n: u32, place: usize) -> u8
     ensures { λ r. ⌜ r ≡ hexDigit (n / 16 ^ place % 16) ⌝ }
 {
     if place < 8 {

@@ -78,7 +78,7 @@ fn opens(f: Field, count: usize) -> bool
     if f.is_continuation() {
         return false;
     }
-    count < 32
+    count < Table::KEYS
 }
 
 // The note of a field that changes nothing: a start that finds no room, or an unknown key.
@@ -107,7 +107,7 @@ pub struct Notes {
 
 impl Notes {
     // No note.
-    pub fn none() -> Self
+    fn none() -> Self
         ensures { λ r. ⌜ r ≡ noNotes ⌝ }
     {
         Notes { notes: [Noted { note: Note::Opened }; 14], count: 0 }

@@ -13,7 +13,7 @@ ghost use mathlib.Core.Path.{_≡_};
 ghost use Rattle.rules.specs.Outcomes.{numberOf, noteNumber};
 
 // An outcome's number.
-pub fn outcome_number(outcome: Outcome) -> usize
+pub(crate) fn outcome_number(outcome: Outcome) -> usize
     ensures { λ r. ⌜ r ≡ numberOf outcome ⌝ }
 {
     match outcome {
@@ -33,7 +33,7 @@ pub fn outcome_number(outcome: Outcome) -> usize
 }
 
 // A note's number.
-pub fn note_number(note: Note) -> usize
+pub(crate) fn note_number(note: Note) -> usize
     ensures { λ r. ⌜ r ≡ noteNumber note ⌝ }
 {
     match note {
@@ -49,31 +49,31 @@ pub fn note_number(note: Note) -> usize
 }
 
 // A line of one letter at the front of a buffer.
-pub fn put_letter(out: &mut [u8], letter: u8) -> usize {
+pub(crate) fn put_letter(out: &mut [u8], letter: u8) -> usize {
     let p = put(out, 0, letter);
     put(out, p, 10)
 }
 
 // A letter and a number at the front of a buffer, without the line's end.
-pub fn put_head(out: &mut [u8], letter: u8, number: usize) -> usize {
+pub(crate) fn put_head(out: &mut [u8], letter: u8, number: usize) -> usize {
     let p = put(out, 0, letter);
     put_number(out, p, number)
 }
 
 // A line of a letter and an outcome's number.
-pub fn put_outcome(out: &mut [u8], letter: u8, outcome: Outcome) -> usize {
+pub(crate) fn put_outcome(out: &mut [u8], letter: u8, outcome: Outcome) -> usize {
     let p = put_head(out, letter, outcome_number(outcome));
     put(out, p, 10)
 }
 
 // A number in decimal.
-pub fn put_number(out: &mut [u8], at: usize, number: usize) -> usize {
+pub(crate) fn put_number(out: &mut [u8], at: usize, number: usize) -> usize {
     let p = put(out, at, 32);
     put_decimal(out, p, number)
 }
 
 // The notes' numbers.
-pub fn put_notes(out: &mut [u8], at: usize, notes: Notes) -> usize {
+pub(crate) fn put_notes(out: &mut [u8], at: usize, notes: Notes) -> usize {
     let end = least(notes.count, 14);
     let mut p = at;
     let mut i = 0;
@@ -102,7 +102,7 @@ fn key_digits(key: u32) -> usize {
 }
 
 // A key.
-pub fn put_key(out: &mut [u8], at: usize, key: u32) -> usize {
+pub(crate) fn put_key(out: &mut [u8], at: usize, key: u32) -> usize {
     put_hex(out, at, key_digits(key), key)
 }
 
@@ -142,7 +142,7 @@ fn put_entries(out: &mut [u8], at: usize, table: Table) -> usize {
 }
 
 // A whole table, or its outcome 9.
-pub fn put_table(out: &mut [u8], table: Table) -> usize {
+pub(crate) fn put_table(out: &mut [u8], table: Table) -> usize {
     if !table.meets() {
         return put_outcome(out, b't', Outcome::WrongTable);
     }
@@ -170,7 +170,7 @@ fn put_digits(out: &mut [u8], at: usize, bytes: &[u8], size: usize) -> usize {
 
 // What was written into a buffer: its first bytes, or a dash for none; nothing after another outcome
 // than 0.
-pub fn put_output(out: &mut [u8], at: usize, outcome: Outcome, bytes: &[u8], size: usize) -> usize {
+pub(crate) fn put_output(out: &mut [u8], at: usize, outcome: Outcome, bytes: &[u8], size: usize) -> usize {
     if outcome_number(outcome) != 0 {
         return at;
     }
@@ -183,7 +183,7 @@ pub fn put_output(out: &mut [u8], at: usize, outcome: Outcome, bytes: &[u8], siz
 
 // The first place of a buffer that must stay unchanged: the one past what was written, or the first
 // after another outcome than 0.
-pub fn kept_from(outcome: Outcome, size: usize) -> usize {
+pub(crate) fn kept_from(outcome: Outcome, size: usize) -> usize {
     if outcome_number(outcome) == 0 {
         size
     } else {
@@ -192,7 +192,7 @@ pub fn kept_from(outcome: Outcome, size: usize) -> usize {
 }
 
 // The last word of a line: whether what must stay unchanged was kept.
-pub fn put_kept(out: &mut [u8], at: usize, kept: bool) -> usize {
+pub(crate) fn put_kept(out: &mut [u8], at: usize, kept: bool) -> usize {
     if kept {
         put_bytes(out, at, b" kept\n")
     } else {
@@ -201,7 +201,7 @@ pub fn put_kept(out: &mut [u8], at: usize, kept: bool) -> usize {
 }
 
 // Whether every number from a place on is the filling.
-pub fn is_kept_u32(numbers: &[u32], from: usize) -> bool {
+pub(crate) fn is_kept_u32(numbers: &[u32], from: usize) -> bool {
     let mut i = from;
     while i < numbers.len() {
         if numbers[i] != 0xAAAAAAAA {
@@ -213,7 +213,7 @@ pub fn is_kept_u32(numbers: &[u32], from: usize) -> bool {
 }
 
 // The same for bytes.
-pub fn is_kept_u8(bytes: &[u8], from: usize) -> bool {
+pub(crate) fn is_kept_u8(bytes: &[u8], from: usize) -> bool {
     let mut i = from;
     while i < bytes.len() {
         if bytes[i] != 0xAA {

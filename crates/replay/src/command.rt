@@ -286,7 +286,7 @@ fn answer_words(table: Table, line: &[u8], len: usize, out: &mut [u8]) -> Step {
 }
 
 // The answer to a line of this length: nothing to an empty one, and too long above 65,536.
-pub fn answer_line(table: Table, line: &[u8], len: usize, out: &mut [u8]) -> Step {
+pub(crate) fn answer_line(table: Table, line: &[u8], len: usize, out: &mut [u8]) -> Step {
     if len == 0 {
         Step {
             table,

@@ -5,7 +5,7 @@ ghost use Prim.Native.Nat.{_≤_};
 ghost use lib.ListN.{length};
 
 // The first place from `from` on, before `to`, where this byte stands; or `to`, or the line's end.
-pub fn place_of(line: &[u8], from: usize, to: usize, byte: u8) -> usize
+pub(crate) fn place_of(line: &[u8], from: usize, to: usize, byte: u8) -> usize
     ensures { λ r. ⌜ r ≤ length (now (line .entry)) ⌝ }
 {
     let end = least(to, line.len());
@@ -20,7 +20,7 @@ pub fn place_of(line: &[u8], from: usize, to: usize, byte: u8) -> usize
 }
 
 // Whether a line of this length is this letter alone.
-pub fn is_letter(line: &[u8], len: usize, letter: u8) -> bool {
+pub(crate) fn is_letter(line: &[u8], len: usize, letter: u8) -> bool {
     if len != 1 {
         return false;
     }
@@ -31,7 +31,7 @@ pub fn is_letter(line: &[u8], len: usize, letter: u8) -> bool {
 }
 
 // Whether a line of this length begins with this letter, with nothing or a blank after it.
-pub fn begins(line: &[u8], len: usize, letter: u8) -> bool {
+pub(crate) fn begins(line: &[u8], len: usize, letter: u8) -> bool {
     let end = least(len, line.len());
     if end == 0 {
         return false;
@@ -46,7 +46,7 @@ pub fn begins(line: &[u8], len: usize, letter: u8) -> bool {
 }
 
 // What a hexadecimal digit says, capital or small; 16 where it is none.
-pub fn digit_of(byte: u8) -> u32
+pub(crate) fn digit_of(byte: u8) -> u32
     ensures { λ r. ⌜ r ≤ 16 ⌝ }
 {
     if byte < 48 {
@@ -74,7 +74,7 @@ pub struct Key {
 
 // The key that 1 to 8 hexadecimal digits from `from` to `to` say. The remainder cuts nothing off at
 // eight digits, and shows that the product fits.
-pub fn key_at(line: &[u8], from: usize, to: usize) -> Key {
+pub(crate) fn key_at(line: &[u8], from: usize, to: usize) -> Key {
     let end = least(to, line.len());
     if end <= from {
         return Key {
@@ -112,7 +112,7 @@ pub struct Count {
 
 // The count that 1 to 10 decimal digits from `from` to `to` say, if it is at most `most`. The
 // remainder cuts nothing off at ten digits.
-pub fn count_at(line: &[u8], from: usize, to: usize, most: usize) -> Count
+pub(crate) fn count_at(line: &[u8], from: usize, to: usize, most: usize) -> Count
     ensures { λ r. ⌜ r .count ≤ most ⌝ }
 {
     let end = least(to, line.len());
@@ -174,7 +174,7 @@ fn byte_at(line: &[u8], at: usize, to: usize) -> u32
 
 // The bytes that the line's second word says in hexadecimal, to the front of a buffer, and how many.
 // Good where there is no second word, or an even number of digits, at least two, whose bytes fit.
-pub fn bytes_at(line: &[u8], len: usize, bytes: &mut [u8]) -> Count {
+pub(crate) fn bytes_at(line: &[u8], len: usize, bytes: &mut [u8]) -> Count {
     let end = least(len, line.len());
     if end == 2 {
         return Count {

@@ -214,7 +214,7 @@ fn spoil_lists(table: Table, way: usize) -> Spoilt {
 }
 
 // A table spoiled in one of the ways 1 to 16.
-pub fn spoil(table: Table, way: usize) -> Spoilt {
+pub(crate) fn spoil(table: Table, way: usize) -> Spoilt {
     if 7 <= way {
         return spoil_lists(table, way);
     }

@@ -33,7 +33,7 @@ impl Table {
     // The keys that a table holds at most.
     pub const KEYS: usize = 32;
     // The identifiers that a set holds at most.
-    pub const IDENTIFIERS: usize = 128;
+    pub const IDENTIFIERS: usize = IdList::MOST;
 
     // The table that holds nothing.
     pub fn empty() -> Self
@@ -53,7 +53,7 @@ impl Table {
 // ---- the test of the table rules
 
 // Whether keys ascend, lie below 65,536 and have LSN not 0, among the first `count`.
-pub fn keys_meet(keys: &[u32], count: usize) -> bool
+fn keys_meet(keys: &[u32], count: usize) -> bool
     ensures { λ r. ⌜ r ≡ keysMeet 0 (take count (now (keys .entry))) ⌝ }
 {
     let end = lists::least(count, keys.len());
@@ -77,7 +77,7 @@ pub fn keys_meet(keys: &[u32], count: usize) -> bool
 }
 
 // Whether every flag from a place on is off.
-pub fn all_off(on: &[bool], from: usize) -> bool
+fn all_off(on: &[bool], from: usize) -> bool
     ensures { λ r. ⌜ r ≡ allOff (drop from (now (on .entry))) ⌝ }
 {
     let mut i = from;
@@ -126,7 +126,7 @@ impl Table {
         ensures { λ r. ⌜ Tested r (Stored self) ⌝ }
     {
         let count = self.count;
-        if 32 < count {
+        if Self::KEYS < count {
             return false;
         }
         if !keys_meet(&self.keys, count) {
@@ -266,10 +266,10 @@ impl Table {
         ensures { λ r. ⌜ r ≡ openedTable self at key on list ⌝ }
     {
         let count = self.count;
-        if 32 <= at {
+        if Self::KEYS <= at {
             return self;
         }
-        if 32 <= count {
+        if Self::KEYS <= count {
             return self;
         }
         let keys = self.keys;
