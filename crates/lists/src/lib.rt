@@ -19,8 +19,8 @@ use field::Field;
 // Numbers and kinds of `len` identifiers, in order, and the kinds that the list names: 1 RDS plus
 // 2 DRM or AMSS. Every place past them is zero. Length 0 means that there is no list.
 pub struct IdList {
-    pub numbers: [u32; 128],
-    pub kinds: [u8; 128],
+    pub numbers: [u32; IdList::MOST],
+    pub kinds: [u8; IdList::MOST],
     pub len: usize,
     pub named: u8,
 }
@@ -34,8 +34,8 @@ impl IdList {
         ensures { λ r. ⌜ r ≡ emptyList ⌝ }
     {
         Self {
-            numbers: [0u32; 128],
-            kinds: [0u8; 128],
+            numbers: [0u32; Self::MOST],
+            kinds: [0u8; Self::MOST],
             len: 0,
             named: 0,
         }

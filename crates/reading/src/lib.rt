@@ -149,7 +149,7 @@ fn run_blocks(table: Table, bytes: &[u8]) -> Answer
     requires { ⌜ Stored table ⌝ }
     ensures { λ r. ⌜ Runs table (now (bytes .entry)) r ⌝ }
 {
-    let closed = [IdList::empty(); 32];
+    let closed = [IdList::empty(); Table::KEYS];
     let mut t = table;
     let mut notes = Notes::none();
     let mut outcome = Outcome::Done;

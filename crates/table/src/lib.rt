@@ -23,10 +23,10 @@ use rules::Outcome;
 // open list. Every unused place is zero.
 pub struct Table {
     pub count: usize,
-    pub keys: [u32; 32],
-    pub on: [bool; 32],
-    pub shown: [IdList; 32],
-    pub draft: [IdList; 32],
+    pub keys: [u32; Table::KEYS],
+    pub on: [bool; Table::KEYS],
+    pub shown: [IdList; Table::KEYS],
+    pub draft: [IdList; Table::KEYS],
 }
 
 impl Table {
@@ -42,10 +42,10 @@ impl Table {
         let none = IdList::empty();
         Self {
             count: 0,
-            keys: [0u32; 32],
-            on: [false; 32],
-            shown: [none; 32],
-            draft: [none; 32],
+            keys: [0u32; Table::KEYS],
+            on: [false; Table::KEYS],
+            shown: [none; Table::KEYS],
+            draft: [none; Table::KEYS],
         }
     }
 }
@@ -91,11 +91,11 @@ fn all_off(on: &[bool], from: usize) -> bool
 }
 
 // Whether each list is the stored form of one that meets the rules for its key, or of none.
-fn lists_meet(keys: [u32; 32], lists: [IdList; 32]) -> bool
+fn lists_meet(keys: [u32; Table::KEYS], lists: [IdList; Table::KEYS]) -> bool
     ensures { λ r. ⌜ Tested r (EachHolds keys lists) ⌝ }
 {
     let mut i = 0;
-    while i < 32 {
+    while i < Table::KEYS {
         let list = lists[i];
         if !list.meets(keys[i]) {
             return false;
@@ -106,11 +106,11 @@ fn lists_meet(keys: [u32; 32], lists: [IdList; 32]) -> bool
 }
 
 // Whether there is no list from a place on.
-fn none_from(from: usize, lists: [IdList; 32]) -> bool
+fn none_from(from: usize, lists: [IdList; Table::KEYS]) -> bool
     ensures { λ r. ⌜ Tested r (NoneFrom from lists) ⌝ }
 {
     let mut i = from;
-    while i < 32 {
+    while i < Table::KEYS {
         let list = lists[i];
         if list.len != 0 {
             return false;
@@ -173,13 +173,13 @@ pub fn place_of(keys: &[u32], count: usize, key: u32) -> usize
 
 // ---- an array with one value more or one less; of each, one for every type of value
 
-fn open_u32(xs: [u32; 32], at: usize, v: u32) -> [u32; 32]
+fn open_u32(xs: [u32; Table::KEYS], at: usize, v: u32) -> [u32; Table::KEYS]
     requires { ⌜ at < 32 ⌝ }
     ensures { λ r. ⌜ r ≡ opened at v xs ⌝ }
 {
     let mut ys = xs;
     let mut j = at + 1;
-    while j < 32 {
+    while j < Table::KEYS {
         ys[j] = xs[j - 1];
         j += 1;
     }
@@ -187,13 +187,13 @@ fn open_u32(xs: [u32; 32], at: usize, v: u32) -> [u32; 32]
     ys
 }
 
-fn open_flag(xs: [bool; 32], at: usize, v: bool) -> [bool; 32]
+fn open_flag(xs: [bool; Table::KEYS], at: usize, v: bool) -> [bool; Table::KEYS]
     requires { ⌜ at < 32 ⌝ }
     ensures { λ r. ⌜ r ≡ opened at v xs ⌝ }
 {
     let mut ys = xs;
     let mut j = at + 1;
-    while j < 32 {
+    while j < Table::KEYS {
         ys[j] = xs[j - 1];
         j += 1;
     }
@@ -201,13 +201,13 @@ fn open_flag(xs: [bool; 32], at: usize, v: bool) -> [bool; 32]
     ys
 }
 
-fn open_list(xs: [IdList; 32], at: usize, v: IdList) -> [IdList; 32]
+fn open_list(xs: [IdList; Table::KEYS], at: usize, v: IdList) -> [IdList; Table::KEYS]
     requires { ⌜ at < 32 ⌝ }
     ensures { λ r. ⌜ r ≡ opened at v xs ⌝ }
 {
     let mut ys = xs;
     let mut j = at + 1;
-    while j < 32 {
+    while j < Table::KEYS {
         let x = xs[j - 1];
         ys[j] = x;
         j += 1;
@@ -216,7 +216,7 @@ fn open_list(xs: [IdList; 32], at: usize, v: IdList) -> [IdList; 32]
     ys
 }
 
-fn shut_u32(xs: [u32; 32], at: usize) -> [u32; 32]
+fn shut_u32(xs: [u32; Table::KEYS], at: usize) -> [u32; Table::KEYS]
     requires { ⌜ at < 32 ⌝ }
     ensures { λ r. ⌜ r ≡ shut at 0 xs ⌝ }
 {
@@ -230,7 +230,7 @@ fn shut_u32(xs: [u32; 32], at: usize) -> [u32; 32]
     ys
 }
 
-fn shut_flag(xs: [bool; 32], at: usize) -> [bool; 32]
+fn shut_flag(xs: [bool; Table::KEYS], at: usize) -> [bool; Table::KEYS]
     requires { ⌜ at < 32 ⌝ }
     ensures { λ r. ⌜ r ≡ shut at false xs ⌝ }
 {
@@ -244,7 +244,7 @@ fn shut_flag(xs: [bool; 32], at: usize) -> [bool; 32]
     ys
 }
 
-fn shut_list(xs: [IdList; 32], at: usize) -> [IdList; 32]
+fn shut_list(xs: [IdList; Table::KEYS], at: usize) -> [IdList; Table::KEYS]
     requires { ⌜ at < 32 ⌝ }
     ensures { λ r. ⌜ r ≡ shut at emptyList xs ⌝ }
 {
