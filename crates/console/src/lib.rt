@@ -1,7 +1,6 @@
 // Standard input and output for the programs: a recording into a table, and an output's first bytes.
 // No contract can say what is read or written; what is done with it is proved in the crates below.
 ghost use Rattle.table.specs.Stored.{Stored};
-
 use libc::STDIN_FILENO;
 use libc::STDOUT_FILENO;
 use reading::Recorded;
@@ -62,7 +61,10 @@ pub fn receive() -> Received
         turns -= 1;
     }
     let table = turn.table;
-    Received { rest: turn.rest, table }
+    Received {
+        rest: turn.rest,
+        table,
+    }
 }
 
 // Writes the first n bytes of an output to standard output; nothing where there are fewer.

@@ -99,36 +99,38 @@ put-store : (xs : List Pair) (named : ℕ) (p : Pair) → length xs < 128
 unfolding put storeList numberIn kindIn
 put-store xs named p h =
     let ns : set (padded 128 0 (map numberIn xs)) (length xs) (numberIn p) ≡ padded 128 0 (map numberIn (xs ++ p ∷ [])) =
-          ap (λ (k : ℕ). set (padded 128 0 (map numberIn xs)) k (numberIn p)) (sym (length-map xs numberIn))
-          ∙ set-padded 128 (map numberIn xs) (numberIn p) (rw length-map h) ∙ ap (padded 128 0) (sym (map-append numberIn xs (p ∷ []))) in
+    ap (λ (k : ℕ). set (padded 128 0 (map numberIn xs)) k (numberIn p)) (sym (length-map xs numberIn))
+    ∙ set-padded 128 (map numberIn xs) (numberIn p) (rw length-map h) ∙ ap (padded 128 0) (sym (map-append numberIn xs (p ∷ []))) in
     let ks : set (padded 128 0 (map kindIn xs)) (length xs) (kindIn p) ≡ padded 128 0 (map kindIn (xs ++ p ∷ [])) =
-          ap (λ (k : ℕ). set (padded 128 0 (map kindIn xs)) k (kindIn p)) (sym (length-map xs kindIn))
-          ∙ set-padded 128 (map kindIn xs) (kindIn p) (rw length-map h) ∙ ap (padded 128 0) (sym (map-append kindIn xs (p ∷ []))) in
+    ap (λ (k : ℕ). set (padded 128 0 (map kindIn xs)) k (kindIn p)) (sym (length-map xs kindIn))
+    ∙ set-padded 128 (map kindIn xs) (kindIn p) (rw length-map h) ∙ ap (padded 128 0) (sym (map-append kindIn xs (p ∷ []))) in
     let len : length xs + 1 ≡ length (xs ++ p ∷ []) = sym (length-append xs (p ∷ [])) in
     λ i. record { numbers = ns i; kinds = ks i; len = len i; named = named }
 
 -- adding to a stored list is adding to its items, unless they become too many
 pub grown-store : (ps xs : List Pair) (named : ℕ) → length xs ≤ 128
     → grown (storeList (record { items = xs; named = named })) ps
-      ≡ cond (leb (length (addedAll linkage xs ps)) 128) (some (storeList (record { items = addedAll linkage xs ps; named = named }))) none
+    ≡ cond (leb (length (addedAll linkage xs ps)) 128) (some (storeList (record { items = addedAll linkage xs ps; named = named }))) none
 unfolding grown addedAll storeList
 grown-store [] xs named h = rw (le-leb (length xs) 128 h)
 grown-store (p ∷ ps) xs named h =
     decide (member linkage p xs)
     (λ t. rw (pairs-of, t, added-there t) (grown-store ps xs named h))
     (λ n. rw (pairs-of, n, added-new n)
-      (decide (ltb (length xs) 128)
-        (λ l. rw (l, put-store xs named p (ltb-true (length xs) 128 l)) (grown-store ps (xs ++ p ∷ []) named (rw (length-append xs (p ∷ [])) (omega (arith, ltb-true (length xs) 128 l)))))
-        (λ f. 
-          let g = addedAll-grows linkage (xs ++ p ∷ []) ps in
-          let long : 128 < length (addedAll linkage (xs ++ p ∷ []) ps) =
-                rw (g .1, length-append (xs ++ p ∷ []) (g .0), length-append xs (p ∷ [])) (omega (arith, ltb-false (length xs) 128 f)) in
-          rw (f, lt-leb (length (addedAll linkage (xs ++ p ∷ []) ps)) 128 long))))
+    (decide (ltb (length xs) 128)
+    (λ l. rw (l, put-store xs named p (ltb-true (length xs) 128 l)) (grown-store ps (xs ++ p ∷ []) named (rw (length-append xs (p ∷ [])) (omega (arith, ltb-true (length xs) 128 l)))))
+    (λ f.
+    let g = addedAll-grows linkage (xs ++ p ∷ []) ps in
+    let long : 128 < length (addedAll linkage (xs ++ p ∷ []) ps) =
+    rw (g .1, length-append (xs ++ p ∷ []) (g .0), length-append xs (p ∷ [])) (omega (arith, ltb-false (length xs) 128 f)) in
+    rw (f, lt-leb (length (addedAll linkage (xs ++ p ∷ []) ps)) 128 long))))
   where
     pairs-of : pairsIn (storeList (record { items = xs; named = named }) .kinds) (storeList (record { items = xs; named = named }) .numbers) (storeList (record { items = xs; named = named }) .len) ≡ xs
     pairs-of = pairs-in-store (record { items = xs; named = named })
+
     added-there : member linkage p xs ≡ true → added linkage xs p ≡ xs
     added-there t = unfold added in rw t
+
     added-new : member linkage p xs ≡ false → added linkage xs p ≡ xs ++ p ∷ []
     added-new n = unfold added in rw n
 
@@ -158,7 +160,7 @@ module _ (body : List ℕ) (f : Field) (r : InBody body f) (q : f .qualifier ≡
   -- a continuation: the list extended, or dropped where it would be too long
   pub with-store : (l : IdSet) → length (l .items) ≤ 128
       → withField (storeList l) body f
-        ≡ grownAs (cond (leb (length (extended linkage l (brings (meaning body f)) .items)) 128) (some (storeList (extended linkage l (brings (meaning body f))))) none)
+      ≡ grownAs (cond (leb (length (extended linkage l (brings (meaning body f)) .items)) 128) (some (storeList (extended linkage l (brings (meaning body f))))) none)
   unfolding withField extended brings renamed storeList meaning
   with-store l h =
       ap (λ (ps : List Pair). grownAs (grown (storeList (record { items = l .items; named = joinNames (l .named) (namedBy (f .qualifier)) })) ps)) (field-pairs body f r q)
@@ -169,8 +171,8 @@ module _ (body : List ℕ) (f : Field) (r : InBody body f) (q : f .qualifier ≡
   unfolding withField opening brings renamed meaning grownAs
   with-none =
       let few : length (addedAll linkage [] (pairsOf (meaning body f))) ≤ 128 =
-            omega (arith, length-addedAll linkage [] (pairsOf (meaning body f)), pairs-count body f, r .count) in
+      omega (arith, length-addedAll linkage [] (pairsOf (meaning body f)), pairs-count body f, r .count) in
       let new : grown (storeList (record { items = []; named = namedBy (f .qualifier) })) (pairsOf (meaning body f))
-            ≡ some (storeList (record { items = addedAll linkage [] (pairsOf (meaning body f)); named = namedBy (f .qualifier) })) =
-            grown-store (pairsOf (meaning body f)) [] (namedBy (f .qualifier)) (omega arith) ∙ rw (le-leb _ 128 few) in
+      ≡ some (storeList (record { items = addedAll linkage [] (pairsOf (meaning body f)); named = namedBy (f .qualifier) })) =
+      grown-store (pairsOf (meaning body f)) [] (namedBy (f .qualifier)) (omega arith) ∙ rw (le-leb _ 128 few) in
       ap₂ (λ (l : IdList) (ps : List Pair). grownAs (grown l ps)) (none-named (f .qualifier)) (field-pairs body f r q) ∙ ap grownAs new

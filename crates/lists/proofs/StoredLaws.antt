@@ -129,7 +129,8 @@ set-facts key l e =
       first = and-right (leb (length (l .items)) 128) (firstIsDab (l .items)) d;
       differ = and-right (leb (length (l .items)) 128 && firstIsDab (l .items)) (allDiffer (l .items)) b;
       pairs = and-right (leb (length (l .items)) 128 && firstIsDab (l .items) && allDiffer (l .items)) (pairsMeet (keyWidth key) (l .named) (l .items)) a;
-      names = and-right (leb (length (l .items)) 128 && firstIsDab (l .items) && allDiffer (l .items) && pairsMeet (keyWidth key) (l .named) (l .items)) (namesMeet key (l .named)) e }
+      names = and-right (leb (length (l .items)) 128 && firstIsDab (l .items) && allDiffer (l .items) && pairsMeet (keyWidth key) (l .named) (l .items)) (namesMeet key (l .named)) e;
+    }
 
 pub set-meets : (key : ℕ) (l : IdSet) → SetFacts key l → setMeets key l ≡ true
 unfolding setMeets
@@ -156,14 +157,22 @@ some-facts key l f =
       first = λ n. first-of l (f .first);
       names = λ n. f .names;
       pairs = λ n. ap (pairsMeet (keyWidth key) (l .named)) (pairs-in-store l) ∙ f .pairs;
-      differ = λ n. ap allDiffer (pairs-in-store l) ∙ f .differ }
+      differ = λ n. ap allDiffer (pairs-in-store l) ∙ f .differ;
+    }
 
 store-facts : (key : ℕ) (o : Option IdSet) → ifThere key o ≡ true → Facts key (storeMaybe o)
 unfolding ifThere storeMaybe emptyList allZero
 store-facts key none e =
     record {
-      short = omega arith; numbers-end = refl; kinds-end = refl; unnamed = λ z. refl;
-      first = λ n. absurd (n refl); names = λ n. absurd (n refl); pairs = λ n. absurd (n refl); differ = λ n. absurd (n refl) }
+      short = omega arith;
+      numbers-end = refl;
+      kinds-end = refl;
+      unnamed = λ z. refl;
+      first = λ n. absurd (n refl);
+      names = λ n. absurd (n refl);
+      pairs = λ n. absurd (n refl);
+      differ = λ n. absurd (n refl);
+    }
 store-facts key (some l) e = some-facts key l (set-facts key l e)
 
 pub holds-facts : (key : ℕ) (l : IdList) → Holds key l → Facts key l
@@ -211,11 +220,11 @@ module _ (key : ℕ) (l : IdList) (f : Facts key l) (numbers-long : length (l .n
   unfolding storeList kept
   stored =
       let ns : l .numbers ≡ padded 128 0 (map numberIn (pairsIn (l .kinds) (l .numbers) (l .len))) =
-            zeros-padded 128 (l .len) (l .numbers) numbers-long (f .short) (f .numbers-end)
-            ∙ ap (padded 128 0) (sym (numbers-of-pairs (l .kinds) (l .numbers) (l .len) (kinds-long ∙ sym numbers-long))) in
+      zeros-padded 128 (l .len) (l .numbers) numbers-long (f .short) (f .numbers-end)
+      ∙ ap (padded 128 0) (sym (numbers-of-pairs (l .kinds) (l .numbers) (l .len) (kinds-long ∙ sym numbers-long))) in
       let ks : l .kinds ≡ padded 128 0 (map kindIn (pairsIn (l .kinds) (l .numbers) (l .len))) =
-            zeros-padded 128 (l .len) (l .kinds) kinds-long (f .short) (f .kinds-end)
-            ∙ ap (padded 128 0) (sym (kinds-of-pairs (l .kinds) (l .numbers) (l .len) (kinds-long ∙ sym numbers-long))) in
+      zeros-padded 128 (l .len) (l .kinds) kinds-long (f .short) (f .kinds-end)
+      ∙ ap (padded 128 0) (sym (kinds-of-pairs (l .kinds) (l .numbers) (l .len) (kinds-long ∙ sym numbers-long))) in
       λ i. record { numbers = ns i; kinds = ks i; len = sym length-kept i; named = l .named }
 
   kept-facts : (l .len ≡ 0 → ⊥) → SetFacts key kept
@@ -224,7 +233,10 @@ module _ (key : ℕ) (l : IdList) (f : Facts key l) (numbers-long : length (l .n
       record {
         short = subst (λ (k : ℕ). k ≤ 128) (sym length-kept) (f .short);
         first = first-kept (l .kinds) (l .numbers) (l .len) kinds-long numbers-long n (f .first n);
-        differ = f .differ n; pairs = f .pairs n; names = f .names n }
+        differ = f .differ n;
+        pairs = f .pairs n;
+        names = f .names n;
+      }
 
   empty-stored : l .len ≡ 0 → l ≡ emptyList
   unfolding emptyList
@@ -259,10 +271,18 @@ pub tested-empty : (key : ℕ) (l : IdList) → length (l .numbers) ≡ 128 → 
 tested-empty key l nl kl z zn zk =
     record {
       sound = λ e. holds-by key l
-        (record {
-          short = omega arith; numbers-end = zn; kinds-end = zk; unnamed = λ q. eqb-true (l .named) 0 e;
-          first = λ n. absurd (n z); names = λ n. absurd (n z); pairs = λ n. absurd (n z); differ = λ n. absurd (n z) }) nl kl;
-      complete = λ h. eq-eqb _ _ (holds-facts key l h .unnamed z) }
+          (record {
+            short = omega arith;
+            numbers-end = zn;
+            kinds-end = zk;
+            unnamed = λ q. eqb-true (l .named) 0 e;
+            first = λ n. absurd (n z);
+            names = λ n. absurd (n z);
+            pairs = λ n. absurd (n z);
+            differ = λ n. absurd (n z);
+          }) nl kl;
+      complete = λ h. eq-eqb _ _ (holds-facts key l h .unnamed z);
+    }
 
 -- ---- the arrays of a list that holds something are 128 long
 

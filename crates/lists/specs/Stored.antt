@@ -20,8 +20,11 @@ padded n d xs = xs ++ replicate (n - length xs) d
 unfoldable pub storeList : IdSet → IdList
 storeList l =
     record {
-      numbers = padded 128 0 (map numberIn (l .items)); kinds = padded 128 0 (map kindIn (l .items));
-      len = length (l .items); named = l .named }
+      numbers = padded 128 0 (map numberIn (l .items));
+      kinds = padded 128 0 (map kindIn (l .items));
+      len = length (l .items);
+      named = l .named;
+    }
 
 -- no list
 unfoldable pub emptyList : IdList

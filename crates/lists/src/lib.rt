@@ -13,7 +13,6 @@ ghost use Rattle.rules.specs.Family.{member};
 ghost use Rattle.rules.specs.Collecting.{linkage, joinNames, keyWidth, kindNamed, namesMeet, pairsMeet, allDiffer};
 ghost use Rattle.lists.specs.Grown.{withField};
 ghost use Rattle.lists.specs.Stored.{emptyList, pairsIn, allZero, Holds, Tested};
-
 use field::Field;
 
 // Numbers and kinds of `len` identifiers, in order, and the kinds that the list names: 1 RDS plus
@@ -50,7 +49,14 @@ pub fn least(a: usize, b: usize) -> usize
 }
 
 // Whether a pair stands among the first `len` of these, from place `from` on.
-pub fn stands_in<'a>(numbers: &'a [u32], kinds: &'a [u8], from: usize, len: usize, kind: u8, number: u32) -> bool
+pub fn stands_in<'a>(
+    numbers: &'a [u32],
+    kinds: &'a [u8],
+    from: usize,
+    len: usize,
+    kind: u8,
+    number: u32,
+) -> bool
     ensures { λ r. ⌜ r ≡ member linkage (pair kind number) (drop from (pairsIn (now (kinds .entry)) (now (numbers .entry)) len)) ⌝ }
 {
     let end = least(len, least(kinds.len(), numbers.len()));
@@ -263,7 +269,10 @@ impl IdList {
             let len = next.len;
             if !stands_in(&next.numbers, &next.kinds, 0, len, kind, number) {
                 if Self::MOST <= len {
-                    return Grown { fits: false, list: IdList::empty() };
+                    return Grown {
+                        fits: false,
+                        list: IdList::empty(),
+                    };
                 }
                 next.numbers[len] = number;
                 next.kinds[len] = kind;
@@ -271,6 +280,9 @@ impl IdList {
             }
             i += 1;
         }
-        Grown { fits: true, list: next }
+        Grown {
+            fits: true,
+            list: next,
+        }
     }
 }

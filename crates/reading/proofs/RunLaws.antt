@@ -50,11 +50,11 @@ note-more ns n h =
     let k : 14 - length (map notedAs (ns ++ n ∷ [])) ≡ 14 - (length ns + 1) = ap (λ (j : ℕ). 14 - j) (length-map (ns ++ n ∷ []) notedAs ∙ length-append ns (n ∷ [])) in
     let x : List Noted = replicate (14 - (length ns + 1)) (notedAs Opened) in
     let all : set (map notedAs ns ++ replicate (14 - length (map notedAs ns)) (notedAs Opened)) (length ns) (notedAs n)
-          ≡ map notedAs (ns ++ n ∷ []) ++ replicate (14 - length (map notedAs (ns ++ n ∷ []))) (notedAs Opened) =
-          ap (λ (m : ℕ). set (map notedAs ns ++ replicate m (notedAs Opened)) (length ns) (notedAs n)) e
-          ∙ set-at (map notedAs ns) (notedAs Opened) x (notedAs n) (length ns) (length-map ns notedAs)
-          ∙ sym (append-snoc (map notedAs ns) (notedAs n) x)
-          ∙ ap₂ (λ (a : List Noted) (m : ℕ). a ++ replicate m (notedAs Opened)) (sym (map-append notedAs ns (n ∷ []))) (sym k) in
+    ≡ map notedAs (ns ++ n ∷ []) ++ replicate (14 - length (map notedAs (ns ++ n ∷ []))) (notedAs Opened) =
+    ap (λ (m : ℕ). set (map notedAs ns ++ replicate m (notedAs Opened)) (length ns) (notedAs n)) e
+    ∙ set-at (map notedAs ns) (notedAs Opened) x (notedAs n) (length ns) (length-map ns notedAs)
+    ∙ sym (append-snoc (map notedAs ns) (notedAs n) x)
+    ∙ ap₂ (λ (a : List Noted) (m : ℕ). a ++ replicate m (notedAs Opened)) (sym (map-append notedAs ns (n ∷ []))) (sym k) in
     λ i. record { notes = all i; count = sym (length-append ns (n ∷ [])) i }
 
 -- ---- what the loop keeps
@@ -95,10 +95,23 @@ pub going-first : (bytes : List ℕ) (t : Table) (notes : Notes) (spots : Spots)
 unfolding noSpots begun
 going-first bytes t notes spots c m e n s =
     record {
-      first = c; first-meets = m; first-stored = e; now' = c; now-meets = m; stored = e; fields = [];
-      placed = placed-none _ spots (ap (λ (x : Spots). x .count) s); good = tt;
-      inside = λ h. absurd (not-suc-le-zero h); noted = []; notes-are = n ∙ no-notes; as-many = refl; within = omega arith; at-most = omega arith;
-      answer = ap₂ (λ (n : ℕ) (a : Answer). runBlocks n a bytes) (ap (λ (n : ℕ). n / 32) whole) (sym (resumed-none Done [] c)) }
+      first = c;
+      first-meets = m;
+      first-stored = e;
+      now' = c;
+      now-meets = m;
+      stored = e;
+      fields = [];
+      placed = placed-none _ spots (ap (λ (x : Spots). x .count) s);
+      good = tt;
+      inside = λ h. absurd (not-suc-le-zero h);
+      noted = [];
+      notes-are = n ∙ no-notes;
+      as-many = refl;
+      within = omega arith;
+      at-most = omega arith;
+      answer = ap₂ (λ (n : ℕ) (a : Answer). runBlocks n a bytes) (ap (λ (n : ℕ). n / 32) whole) (sym (resumed-none Done [] c));
+    }
   where
     whole : length bytes ≡ length bytes - 0
     whole = omega arith
@@ -153,19 +166,28 @@ module _ (bytes : List ℕ) (t₀ t : Table) (notes : Notes) (o : Outcome) (spot
   unfolding field-now
   going-next h t' notes' n c' e s q =
       record {
-        first = G .first; first-meets = G .first-meets; first-stored = G .first-stored;
-        now' = c'; now-meets = step-meets (G .now') c' n (getD (G .fields) i noField) (good-now h) (G .now-meets) e; stored = s;
-        fields = G .fields; placed = G .placed; good = G .good; inside = G .inside;
+        first = G .first;
+        first-meets = G .first-meets;
+        first-stored = G .first-stored;
+        now' = c';
+        now-meets = step-meets (G .now') c' n (getD (G .fields) i noField) (good-now h) (G .now-meets) e;
+        stored = s;
+        fields = G .fields;
+        placed = G .placed;
+        good = G .good;
+        inside = G .inside;
         noted = G .noted ++ n ∷ [];
         notes-are = q ∙ ap₂ (λ (m : Notes) (j : ℕ). notedAt m j n) (G .notes-are) (sym (G .as-many)) ∙ note-more (G .noted) n (rw (G .as-many) (few-fields h));
         as-many = length-append (G .noted) (n ∷ []) ∙ omega (arith, G .as-many);
-        within = omega (arith, more-fields h); at-most = G .at-most;
+        within = omega (arith, more-fields h);
+        at-most = G .at-most;
         answer =
-          G .answer
-          ∙ ap (λ (a : Answer). runBlocks ((length bytes - at) / 32) a (drop at bytes))
+            G .answer
+            ∙ ap (λ (a : Answer). runBlocks ((length bytes - at) / 32) a (drop at bytes))
             (ap (resumed o (G .noted) (G .now')) (drop-cons (G .fields) i noField (more-fields h))
             ∙ resumed-step o (G .noted) (G .now') c' n (getD (G .fields) i noField) (drop (suc i) (G .fields)) e
-            ∙ ap (λ (k : ℕ). resumed o (G .noted ++ n ∷ []) c' (drop k (G .fields))) (sym (add-one i))) }
+            ∙ ap (λ (k : ℕ). resumed o (G .noted ++ n ∷ []) c' (drop k (G .fields))) (sym (add-one i)));
+      }
 
   -- ---- a block more
 
@@ -194,30 +216,55 @@ module _ (bytes : List ℕ) (t₀ t : Table) (notes : Notes) (o : Outcome) (spot
   unfolding resumed
   going-taken h l b fs spots' notes' o' v p n d =
       record {
-        first = G .first; first-meets = G .first-meets; first-stored = G .first-stored; now' = G .now'; now-meets = G .now-meets; stored = G .stored;
-        fields = fs; placed = p; good = taken-good (take 32 (drop at bytes)) fs (bytes-list (take 32 (drop at bytes)) (part-bytes 32 at bytes b)) v;
-        inside = λ _. omega arith; noted = []; notes-are = n ∙ no-notes; as-many = refl; within = omega arith; at-most = omega arith;
+        first = G .first;
+        first-meets = G .first-meets;
+        first-stored = G .first-stored;
+        now' = G .now';
+        now-meets = G .now-meets;
+        stored = G .stored;
+        fields = fs;
+        placed = p;
+        good = taken-good (take 32 (drop at bytes)) fs (bytes-list (take 32 (drop at bytes)) (part-bytes 32 at bytes b)) v;
+        inside = λ _. omega arith;
+        noted = [];
+        notes-are = n ∙ no-notes;
+        as-many = refl;
+        within = omega arith;
+        at-most = omega arith;
         answer =
-          answer-block h l
-          ∙ ap (λ (a : Answer). runBlocks ((length bytes - (at + 32)) / 32) a (drop (at + 32) bytes))
+            answer-block h l
+            ∙ ap (λ (a : Answer). runBlocks ((length bytes - (at + 32)) / 32) a (drop (at + 32) bytes))
             (answer-taken (G .now') (take 32 (drop at bytes)) fs v
-            ∙ ap (λ (x : Outcome). record { outcome = x; notes = steps linkage (G .now') (map said fs) .1; left = steps linkage (G .now') (map said fs) .0 }) (sym d)) }
+            ∙ ap (λ (x : Outcome). record { outcome = x; notes = steps linkage (G .now') (map said fs) .1; left = steps linkage (G .now') (map said fs) .0 }) (sym d));
+      }
 
   pub going-refused : spots .count ≤ i → 32 ≤ length bytes - at → (t' : Table) (spots' : Spots) (notes' : Notes) (o' p : Outcome)
       → verdict (take 32 (drop at bytes)) ≡ refused p → o' ≡ p → spots' .count ≡ 0 → notes' ≡ noNotes → t' ≡ storeTable (dropOpen linkage (G .now'))
       → Going bytes t₀ t' notes' o' spots' at (at + 32) 0
   going-refused h l t' spots' notes' o' p v d z n s =
       record {
-        first = G .first; first-meets = G .first-meets; first-stored = G .first-stored;
-        now' = dropOpen linkage (G .now'); now-meets = table-meets _ .1 (meets-drop-open (G .now') (table-meets _ .0 (G .now-meets))); stored = s;
-        fields = []; placed = placed-none _ spots' z; good = tt;
-        inside = λ q. absurd (not-suc-le-zero q); noted = []; notes-are = n ∙ no-notes; as-many = refl; within = omega arith; at-most = omega arith;
+        first = G .first;
+        first-meets = G .first-meets;
+        first-stored = G .first-stored;
+        now' = dropOpen linkage (G .now');
+        now-meets = table-meets _ .1 (meets-drop-open (G .now') (table-meets _ .0 (G .now-meets)));
+        stored = s;
+        fields = [];
+        placed = placed-none _ spots' z;
+        good = tt;
+        inside = λ q. absurd (not-suc-le-zero q);
+        noted = [];
+        notes-are = n ∙ no-notes;
+        as-many = refl;
+        within = omega arith;
+        at-most = omega arith;
         answer =
-          answer-block h l
-          ∙ ap (λ (a : Answer). runBlocks ((length bytes - (at + 32)) / 32) a (drop (at + 32) bytes))
+            answer-block h l
+            ∙ ap (λ (a : Answer). runBlocks ((length bytes - (at + 32)) / 32) a (drop (at + 32) bytes))
             (answer-refused (G .now') (take 32 (drop at bytes)) p v
             ∙ ap (λ (x : Outcome). record { outcome = x; notes = []; left = dropOpen linkage (G .now') }) (sym d)
-            ∙ sym (resumed-none o' [] (dropOpen linkage (G .now')))) }
+            ∙ sym (resumed-none o' [] (dropOpen linkage (G .now'))));
+      }
 
   -- ---- the end
 
@@ -225,9 +272,12 @@ module _ (bytes : List ℕ) (t₀ t : Table) (notes : Notes) (o : Outcome) (spot
   unfolding Runs runAs runBlocks
   going-end h l =
       let e : (length bytes - at) / 32 ≡ 0 = omega arith in
-      let whole = answer-now h ∙ ap (λ (n : ℕ). runBlocks n (record { outcome = o; notes = G .noted; left = G .now' }) (drop at bytes)) e in
-      (G .first, G .first-meets, G .first-stored,
-      (λ j. record { outcome = o; notes = G .notes-are j; table = G .stored j }) ∙ ap runAs (sym whole))
+      let whole = answer-now h ∙ ap (λ (n : ℕ). runBlocks n (record { outcome = o; notes = G .noted; left = G .now' }) (drop at bytes)) e in (
+        G .first,
+        G .first-meets,
+        G .first-stored,
+        (λ j. record { outcome = o; notes = G .notes-are j; table = G .stored j }) ∙ ap runAs (sym whole),
+      )
 
 -- ---- one block, and a whole recording
 

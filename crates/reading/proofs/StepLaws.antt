@@ -100,15 +100,17 @@ store-set c i e h p =
 -- the step of the rules
 pub step-here : (c : Content) (g : FieldOf) → Here c (keyOf g)
     → step linkage c (said g)
-      ≡ (set c (placeIn (map keyIn c) (keyOf g)) (onHeld linkage (at' c (keyOf g)) (eqb (g .la) 1) (actOf g) .0),
-        onHeld linkage (at' c (keyOf g)) (eqb (g .la) 1) (actOf g) .1)
+    ≡ (
+      set c (placeIn (map keyIn c) (keyOf g)) (onHeld linkage (at' c (keyOf g)) (eqb (g .la) 1) (actOf g) .0),
+      onHeld linkage (at' c (keyOf g)) (eqb (g .la) 1) (actOf g) .1,
+    )
 unfolding step said effect kept store
 step-here c g h =
     let e = onHeld linkage (at' c (keyOf g)) (eqb (g .la) 1) (actOf g) in
     let key' : e .0 .key ≡ keyOf g = onHeld-key linkage (at' c (keyOf g)) (eqb (g .la) 1) (actOf g) ∙ key-at' c (keyOf g) h in
     rw (find-here c (keyOf g) h)
     (ap (λ (t : Content). (t, e .1))
-      (replace-here c (e .0) (subst (Here c) (sym key') h) ∙ ap (λ (k : ℕ). set c (placeIn (map keyIn c) k) (e .0)) key'))
+    (replace-here c (e .0) (subst (Here c) (sym key') h) ∙ ap (λ (k : ℕ). set c (placeIn (map keyIn c) k) (e .0)) key'))
 
 -- ---- a key that is not held
 
@@ -139,7 +141,7 @@ opened-store : (c : Content) (e : Held) (j : ℕ) → e .shown ≡ none → j �
 unfolding storeTable openedTable keyIn onIn shownIn draftIn storeMaybe
 opened-store c e j z m h =
     let n : length (take j c ++ e ∷ drop j c) ≡ length c + 1 =
-          length-append (take j c) (e ∷ drop j c) ∙ ap₂ _+_ (length-take-le j c m) (ap suc (length-drop j c)) ∙ omega arith in
+    length-append (take j c) (e ∷ drop j c) ∙ ap₂ _+_ (length-take-le j c m) (ap suc (length-drop j c)) ∙ omega arith in
     let ks = column-opened keyIn 0 c j e m h in
     let os = column-opened onIn false c j e m h in
     let ss = column-opened shownIn emptyList c j e m h ∙ ap (λ (o : Option IdSet). opened j (storeMaybe o) (padded 32 emptyList (map shownIn c))) z in

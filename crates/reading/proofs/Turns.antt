@@ -214,8 +214,8 @@ module _ (bytes : List ℕ) (t₀ t : Table) (notes : Notes) (o : Outcome) (spot
       turn-from l e shown le is =
           subst (λ (v : Table). Going bytes t₀ (listAt v) notes' o spots from at (i + 1)) (sym e)
           (subst
-            (λ (m : List IdList). Going bytes t₀ (listAt (record { count = t .count; keys = t .keys; on = t .on; shown = m; draft = t .draft })) notes' o spots from at (i + 1))
-            le (turn-with shown is notes' q))
+          (λ (m : List IdList). Going bytes t₀ (listAt (record { count = t .count; keys = t .keys; on = t .on; shown = m; draft = t .draft })) notes' o spots from at (i + 1))
+          le (turn-with shown is notes' q))
 
       pub turn-shows : r .shows ≡ true → u ≡ record { count = t .count; keys = t .keys; on = t .on; shown = set (t .shown) p (getD (t .draft) p past); draft = t .draft }
           → Going bytes t₀ (listAt u) notes' o spots from at (i + 1)
@@ -250,8 +250,8 @@ module _ (bytes : List ℕ) (t₀ t : Table) (notes : Notes) (o : Outcome) (spot
         let few : length c < 32 = subst (λ (n : ℕ). n < 32) count-is (ltb-true (t .count) 32 (and-right (hasListIn f && not (continues f)) _ open')) in
         let act : actOf g ≡ start (brings g) = act-is noList (λ y. start (brings y)) (act-start body f has starts) in
         let list' : w .list ≡ storeList (opening linkage (brings g)) =
-              ap (λ (x : Grown). x .list) (we ∙ ap (λ (x : IdList). withField x body f) le ∙ with-none body f (inside b256) reserved)
-              ∙ ap (λ (y : FieldOf). storeList (opening linkage (brings y))) means in
+        ap (λ (x : Grown). x .list) (we ∙ ap (λ (x : IdList). withField x body f) le ∙ with-none body f (inside b256) reserved)
+        ∙ ap (λ (y : FieldOf). storeList (opening linkage (brings y))) means in
         going-next bytes t₀ t notes o spots from at i G h t' notes' Opened (insert linkage (fresh linkage (keyOf g) (eqb (g .la) 1) (brings g)) c)
         (step-new c g ascending (nowhere b) act few)
         (te ∙ (λ k. openedTable (G .stored k) p (key-is k) (la-is k) (list' k)) ∙ sym (store-new c (keyOf g) p (eqb (g .la) 1) (brings g) (nowhere b) place few))
@@ -273,14 +273,14 @@ module _ (bytes : List ℕ) (t₀ t : Table) (notes : Notes) (o : Outcome) (spot
     turn-same shut' n ne notes' q =
         decide (hasListIn f)
         (λ has. decide (continues f)
-          (λ more. same UnknownKey (step-unknown-more c g ascending (nowhere b) (act-is noList (λ y. continuation (brings y)) (act-more body f has more))) notes'
-            (q ∙ ap (notedAt notes i) (ne ∙ rw (has, more))))
-          (λ starts. 
-            let full : 32 ≤ length c = subst (λ (k : ℕ). 32 ≤ k) count-is (ltb-false (t .count) 32 (rw (has, starts) at shut')) in
-            same Full (step-full c g ascending (nowhere b) (act-is noList (λ y. start (brings y)) (act-start body f has starts)) full) notes'
-            (q ∙ ap (notedAt notes i) (ne ∙ rw (has, starts)))))
+        (λ more. same UnknownKey (step-unknown-more c g ascending (nowhere b) (act-is noList (λ y. continuation (brings y)) (act-more body f has more))) notes'
+        (q ∙ ap (notedAt notes i) (ne ∙ rw (has, more))))
+        (λ starts.
+        let full : 32 ≤ length c = subst (λ (k : ℕ). 32 ≤ k) count-is (ltb-false (t .count) 32 (rw (has, starts) at shut')) in
+        same Full (step-full c g ascending (nowhere b) (act-is noList (λ y. start (brings y)) (act-start body f has starts)) full) notes'
+        (q ∙ ap (notedAt notes i) (ne ∙ rw (has, starts)))))
         (λ has. same UnknownKey (step-unknown-none c g ascending (nowhere b) (act-is noList (λ y. noList) (act-none body f has))) notes'
-          (q ∙ ap (notedAt notes i) (ne ∙ rw has)))
+        (q ∙ ap (notedAt notes i) (ne ∙ rw has)))
 
 -- ---- a refused block
 
@@ -338,9 +338,11 @@ module _ (bytes : List ℕ) (t₀ t : Table) (notes : Notes) (o : Outcome) (spot
   fits-now h =
       let s = spot-now bytes t₀ t notes o spots from at i G h in
       record {
-        ordered = s .ordered; inside = s .inside;
+        ordered = s .ordered;
+        inside = s .inside;
         block = G .inside (omega (arith, more-fields bytes t₀ t notes o spots from at i G h));
-        few = few-fields bytes t₀ t notes o spots from at i G h }
+        few = few-fields bytes t₀ t notes o spots from at i G h;
+      }
 
   pub table-short : t .count ≤ 32
   table-short = omega (arith, count-of t (G .now') (G .stored), meets-facts (G .now') (G .now-meets) .short)

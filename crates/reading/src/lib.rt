@@ -13,9 +13,7 @@ ghost use Rattle.lists.specs.Grown.{withField};
 ghost use Rattle.lists.specs.Stored.{emptyList};
 ghost use Rattle.reading.specs.Steps.{HeldStep, opensIn, unheldNote, noNotes, notedAt, isDone};
 ghost use Rattle.reading.specs.Runs.{Runs, runAs, refusedTable, recordedAs, unrecorded};
-
 use block::Spots;
-
 use field::Field;
 use lists::IdList;
 use rules::Note;
@@ -29,30 +27,41 @@ struct Stepped {
     note: Note,
 }
 
+// These three.
+fn step_of(draft: IdList, shows: bool, note: Note) -> Stepped
+    ensures { λ r. ⌜ r ≡ record { draft = draft; shows = shows; note = note } ⌝ }
+{
+    Stepped {
+        draft,
+        shows,
+        note,
+    }
+}
+
 // A field of a held key.
 fn on_held(draft: IdList, body: &[u8], f: Field) -> Stepped
     ensures { λ r. ⌜ HeldStep (now (body .entry)) f draft r ⌝ }
 {
     if !f.has_list() {
-        return Stepped { shows: false, draft, note: Note::StateOnly };
+        return step_of(draft, false, Note::StateOnly);
     }
     if f.is_continuation() {
         if draft.len == 0 {
-            return Stepped { shows: false, draft, note: Note::NoOpenList };
+            return step_of(draft, false, Note::NoOpenList);
         }
         let grown = draft.with_field(body, f);
         let longer = grown.list;
         if grown.fits {
-            return Stepped { shows: false, draft: longer, note: Note::Added };
+            return step_of(longer, false, Note::Added);
         }
-        return Stepped { shows: false, draft: longer, note: Note::TooLong };
+        return step_of(longer, false, Note::TooLong);
     }
     let grown = IdList::empty().with_field(body, f);
     let opened = grown.list;
     if draft.len == 0 {
-        return Stepped { shows: false, draft: opened, note: Note::Opened };
+        return step_of(opened, false, Note::Opened);
     }
-    Stepped { shows: true, draft: opened, note: Note::ShownAndOpened }
+    step_of(opened, true, Note::ShownAndOpened)
 }
 
 // Whether a key stands at its place.
@@ -110,7 +119,10 @@ impl Notes {
     fn none() -> Self
         ensures { λ r. ⌜ r ≡ noNotes ⌝ }
     {
-        Notes { notes: [Noted { note: Note::Opened }; 14], count: 0 }
+        Notes {
+            notes: [Noted { note: Note::Opened }; 14],
+            count: 0,
+        }
     }
 
     // With a note more at a place.
@@ -190,7 +202,11 @@ fn run_blocks(table: Table, bytes: &[u8]) -> Answer
             }
         } else {
             if bytes.len() - at < 32 {
-                return Answer { outcome, notes, table: t };
+                return Answer {
+                    outcome,
+                    notes,
+                    table: t,
+                };
             }
             from = at;
             at += 32;
@@ -211,10 +227,18 @@ pub fn read_block(table: Table, fib: &[u8]) -> Answer
     ensures { λ r. ⌜ Given table (λ c. r ≡ runAs (readBlock c (now (fib .entry)))) (r ≡ refusedTable table) ⌝ }
 {
     if !table.meets() {
-        return Answer { outcome: Outcome::WrongTable, notes: Notes::none(), table };
+        return Answer {
+            outcome: Outcome::WrongTable,
+            notes: Notes::none(),
+            table,
+        };
     }
     if fib.len() != 32 {
-        return Answer { outcome: Outcome::NotABlock, notes: Notes::none(), table };
+        return Answer {
+            outcome: Outcome::NotABlock,
+            notes: Notes::none(),
+            table,
+        };
     }
     run_blocks(table, fib)
 }
@@ -231,9 +255,17 @@ pub fn read_recording(table: Table, bytes: &[u8]) -> Recorded
     ensures { λ r. ⌜ Given table (λ c. r ≡ recordedAs c (now (bytes .entry))) (r ≡ unrecorded table) ⌝ }
 {
     if !table.meets() {
-        return Recorded { outcome: Outcome::WrongTable, rest: 0, table };
+        return Recorded {
+            outcome: Outcome::WrongTable,
+            rest: 0,
+            table,
+        };
     }
     let run = run_blocks(table, bytes);
     let left = run.table;
-    Recorded { outcome: Outcome::Done, rest: bytes.len() % 32, table: left }
+    Recorded {
+        outcome: Outcome::Done,
+        rest: bytes.len() % 32,
+        table: left,
+    }
 }

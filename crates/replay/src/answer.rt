@@ -170,7 +170,13 @@ fn put_digits(out: &mut [u8], at: usize, bytes: &[u8], size: usize) -> usize {
 
 // What was written into a buffer: its first bytes, or a dash for none; nothing after another outcome
 // than 0.
-pub(crate) fn put_output(out: &mut [u8], at: usize, outcome: Outcome, bytes: &[u8], size: usize) -> usize {
+pub(crate) fn put_output(
+    out: &mut [u8],
+    at: usize,
+    outcome: Outcome,
+    bytes: &[u8],
+    size: usize,
+) -> usize {
     if outcome_number(outcome) != 0 {
         return at;
     }

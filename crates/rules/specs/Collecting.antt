@@ -22,8 +22,17 @@ joinNames a b = max (a % 2) (b % 2) + 2 * max (a / 2) (b / 2)
 abbrev pub linkage : Family
 linkage =
     record {
-      Key = ℕ; sameKey = eqb; keyBefore = ltb; Item = Pair; sameItem = samePair; Names = ℕ; join = joinNames;
-      State = Bool; room = 32; most = 128 }
+      Key = ℕ;
+      sameKey = eqb;
+      keyBefore = ltb;
+      Item = Pair;
+      sameItem = samePair;
+      Names = ℕ;
+      join = joinNames;
+      State = Bool;
+      room = 32;
+      most = 128;
+    }
 
 -- a shown set or an open list; what is held of a key; a table's content, in ascending key order
 abbrev pub IdSet : Type 0

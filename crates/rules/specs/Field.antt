@@ -48,18 +48,37 @@ identifiers w (suc n) bytes = bigEndian 0 (take w bytes) ∷ identifiers w n (dr
 unfoldable pub shortField : ℕ → ℕ → ℕ → Field
 shortField h a b =
     record {
-      cn = h / 128; oe = h / 64 % 2; pd = h / 32 % 2;
-      flag = 0; la = a / 64 % 2; hard = a / 32 % 2; ils = a / 16 % 2; lsn = a % 16 * 256 + b;
-      rfu = 0; qualifier = 0; shorthand = 0; numbers = [] }
+      cn = h / 128;
+      oe = h / 64 % 2;
+      pd = h / 32 % 2;
+      flag = 0;
+      la = a / 64 % 2;
+      hard = a / 32 % 2;
+      ils = a / 16 % 2;
+      lsn = a % 16 * 256 + b;
+      rfu = 0;
+      qualifier = 0;
+      shorthand = 0;
+      numbers = [];
+    }
 
 -- a field with a list, from its FIG's byte h, its own first three bytes and those of its identifiers
 unfoldable pub listField : ℕ → ℕ → ℕ → ℕ → List ℕ → Field
 listField h a b c rest =
     record {
-      cn = h / 128; oe = h / 64 % 2; pd = h / 32 % 2;
-      flag = 1; la = a / 64 % 2; hard = a / 32 % 2; ils = a / 16 % 2; lsn = a % 16 * 256 + b;
-      rfu = c / 128; qualifier = c / 32 % 4; shorthand = c / 16 % 2;
-      numbers = identifiers (width (h / 32 % 2) (a / 16 % 2)) (c % 16) rest }
+      cn = h / 128;
+      oe = h / 64 % 2;
+      pd = h / 32 % 2;
+      flag = 1;
+      la = a / 64 % 2;
+      hard = a / 32 % 2;
+      ils = a / 16 % 2;
+      lsn = a % 16 * 256 + b;
+      rfu = c / 128;
+      qualifier = c / 32 % 4;
+      shorthand = c / 16 % 2;
+      numbers = identifiers (width (h / 32 % 2) (a / 16 % 2)) (c % 16) rest;
+    }
 
 -- the bytes of a field's identifiers, by its FIG's byte, its first and its third
 unfoldable pub listBytes : ℕ → ℕ → ℕ → ℕ
@@ -91,8 +110,10 @@ keyOf f = 32768 * f .oe + 16384 * f .pd + 8192 * f .hard + 4096 * f .ils + f .ls
 -- a kind of identifier, by its qualifier: a DAB service, an RDS code, DRM or AMSS
 abbrev pub dab : ℕ
 dab = 0
+
 abbrev pub rds : ℕ
 rds = 1
+
 abbrev pub drm : ℕ
 drm = 3
 

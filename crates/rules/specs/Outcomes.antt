@@ -149,8 +149,14 @@ copySet e (some l) ns ks =
     cond (ltb (length ns) (length (l .items)) || ltb (length ks) (length (l .items)))
     (notCopied ShortBuffer ns ks)
     (record {
-      outcome = Done; key = e .key; on = e .state; named = l .named; count = length (l .items);
-      numbers = overwritten (map numberIn (l .items)) ns; kinds = overwritten (map kindIn (l .items)) ks })
+      outcome = Done;
+      key = e .key;
+      on = e .state;
+      named = l .named;
+      count = length (l .items);
+      numbers = overwritten (map numberIn (l .items)) ns;
+      kinds = overwritten (map kindIn (l .items)) ks;
+    })
 
 unfoldable pub copyHeld : Option Held → List ℕ → List ℕ → Copied
 copyHeld none ns ks = notCopied NotHeld ns ks

@@ -49,8 +49,8 @@ module _ (n : ℕ) (from to : List ℕ) (hf : n ≤ length from) (ht : n ≤ len
       let l : length (take n from) ≡ n = length-take-le n from hf in
       e ∙ ap (λ (k : ℕ). take k (take n from ++ drop (length (take n from)) to) ++ drop k to) q
       ∙ ap₂ (λ (a b : List ℕ). a ++ b)
-        (take-append-le n (take n from) (drop (length (take n from)) to) (rw l (omega arith)) ∙ take-all n (take n from) (rw l (omega arith)))
-        (ap (λ (k : ℕ). drop k to) (sym l))
+      (take-append-le n (take n from) (drop (length (take n from)) to) (rw l (omega arith)) ∙ take-all n (take n from) (rw l (omega arith)))
+      (ap (λ (k : ℕ). drop k to) (sym l))
 
   pub length-now : (now' : List ℕ) (i : ℕ) → i ≤ n → now' ≡ blend i (overwritten (take n from) to) to → length now' ≡ length to
   unfolding blend
@@ -69,21 +69,33 @@ stored-some key l m z = not-none (l .items) (set-facts key l m .first) z
 unfoldable pub copied : Held → IdList → List ℕ → List ℕ → Copied
 copied e s ns ks =
     record {
-      outcome = Done; key = e .key; on = e .state; named = s .named; count = s .len;
-      numbers = overwritten (take (s .len) (s .numbers)) ns; kinds = overwritten (take (s .len) (s .kinds)) ks }
+      outcome = Done;
+      key = e .key;
+      on = e .state;
+      named = s .named;
+      count = s .len;
+      numbers = overwritten (take (s .len) (s .numbers)) ns;
+      kinds = overwritten (take (s .len) (s .kinds)) ks;
+    }
 
 copy-some : (e : Held) (l : IdSet) (ns ks : List ℕ) → length (l .items) ≤ length ns → length (l .items) ≤ length ks
     → copied e (storeList l) ns ks ≡ copySet e (some l) ns ks
 unfolding copied copySet storeList
 copy-some e l ns ks g h =
     let a : take (length (l .items)) (padded 128 0 (map numberIn (l .items))) ≡ map numberIn (l .items) =
-          take-padded 128 0 (map numberIn (l .items)) (length (l .items)) (length-map (l .items) numberIn) in
+    take-padded 128 0 (map numberIn (l .items)) (length (l .items)) (length-map (l .items) numberIn) in
     let b : take (length (l .items)) (padded 128 0 (map kindIn (l .items))) ≡ map kindIn (l .items) =
-          take-padded 128 0 (map kindIn (l .items)) (length (l .items)) (length-map (l .items) kindIn) in
+    take-padded 128 0 (map kindIn (l .items)) (length (l .items)) (length-map (l .items) kindIn) in
     rw (le-ltb (length ns) (length (l .items)) g, le-ltb (length ks) (length (l .items)) h)
     (λ i. record {
-      outcome = Done; key = e .key; on = e .state; named = l .named; count = length (l .items);
-      numbers = overwritten (a i) ns; kinds = overwritten (b i) ks })
+      outcome = Done;
+      key = e .key;
+      on = e .state;
+      named = l .named;
+      count = length (l .items);
+      numbers = overwritten (a i) ns;
+      kinds = overwritten (b i) ks;
+    })
 
 module _ (e : Held) (o : Option IdSet) (ns ks : List ℕ) where
   pub copy-not-shown : (key : ℕ) → ifThere key o ≡ true → storeMaybe o .len ≡ 0 → notCopied NotShown ns ks ≡ copySet e o ns ks

@@ -56,8 +56,14 @@ copies-missing c k ns ks m n = sym (ap (λ (f : Option Held). copyHeld f ns ks) 
 unfoldable pub handed : ℕ → Bool → IdList → List ℕ → List ℕ → Copied
 handed k on s ns ks =
     record {
-      outcome = Done; key = k; on = on; named = s .named; count = s .len;
-      numbers = overwritten (take (s .len) (s .numbers)) ns; kinds = overwritten (take (s .len) (s .kinds)) ks }
+      outcome = Done;
+      key = k;
+      on = on;
+      named = s .named;
+      count = s .len;
+      numbers = overwritten (take (s .len) (s .numbers)) ns;
+      kinds = overwritten (take (s .len) (s .kinds)) ks;
+    }
 
 module _ (t : Table) (c : Content) (m : meets c ≡ true) (e : t ≡ storeTable c) (k at : ℕ) (p : at ≡ placeIn (take (t .count) (t .keys)) k)
     (h : Here c k) (ns ks : List ℕ) where
@@ -112,8 +118,14 @@ module _ (t : Table) (c : Content) (m : meets c ≡ true) (e : t ≡ storeTable 
       let on' = on-is in
       let set' = set-is in
       (λ i. record {
-        outcome = Done; key = sym key' i; on = on' i; named = set' i .named; count = set' i .len;
-        numbers = overwritten (take (set' i .len) (set' i .numbers)) ns; kinds = overwritten (take (set' i .len) (set' i .kinds)) ks })
+        outcome = Done;
+        key = sym key' i;
+        on = on' i;
+        named = set' i .named;
+        count = set' i .len;
+        numbers = overwritten (take (set' i .len) (set' i .numbers)) ns;
+        kinds = overwritten (take (set' i .len) (set' i .kinds)) ks;
+      })
       ∙ copy-done held (held .shown) ns ks (λ z. n (len-is ∙ z)) (subst (λ (n : ℕ). n ≤ length ns) len-is g) (subst (λ (n : ℕ). n ≤ length ks) len-is l)
       ∙ found
 

@@ -61,9 +61,9 @@ find-not-here last [] k a = λ h. refl
 find-not-here last (e ∷ c) k a =
     decide (ltb (e .key) k)
     (λ t. rw (t, ne-eqb k (e .key) (λ q. before q (ltb-true (e .key) k t))) (λ h. find-not-here (e .key) c k (and-right (ltb last (e .key)) (ascends (e .key) c) a) (λ g. h (suc-le-suc (g .0), g .1))))
-    (λ f. rw f (λ h. 
-      let differs : k ≡ e .key → ⊥ = λ q. h (omega arith, sym q) in
-      rw (ne-eqb k (e .key) differs) (find-after (e .key) c k (and-right (ltb last (e .key)) (ascends (e .key) c) a) (ltb-false (e .key) k f))))
+    (λ f. rw f (λ h.
+    let differs : k ≡ e .key → ⊥ = λ q. h (omega arith, sym q) in
+    rw (ne-eqb k (e .key) differs) (find-after (e .key) c k (and-right (ltb last (e .key)) (ascends (e .key) c) a) (ltb-false (e .key) k f))))
   where
     before : k ≡ e .key → e .key < k → ⊥
     before q l = omega arith
@@ -76,7 +76,7 @@ replace-here [] e = λ h. refl
 replace-here (x ∷ c) e =
     decide (ltb (x .key) (e .key))
     (λ t. rw (t, ne-eqb (e .key) (x .key) (λ q. before q (ltb-true (x .key) (e .key) t)))
-      (λ h. ap (λ (r : Content). x ∷ r) (replace-here c e (le-of-suc-le-suc (h .0), h .1))))
+    (λ h. ap (λ (r : Content). x ∷ r) (replace-here c e (le-of-suc-le-suc (h .0), h .1))))
     (λ f. rw f (λ h. rw (eq-eqb (e .key) (x .key) (sym (h .1)))))
   where
     before : e .key ≡ x .key → x .key < e .key → ⊥
@@ -89,11 +89,12 @@ insert-here [] e = λ h. refl
 insert-here (x ∷ c) e =
     decide (ltb (x .key) (e .key))
     (λ t. rw (t, le-ltb (e .key) (x .key) (lt-le (ltb-true (x .key) (e .key) t)))
-      (λ h. ap (λ (r : Content). x ∷ r) (insert-here c e (λ g. h (suc-le-suc (g .0), g .1)))))
+    (λ h. ap (λ (r : Content). x ∷ r) (insert-here c e (λ g. h (suc-le-suc (g .0), g .1)))))
     (λ f. rw f (λ h. rw (lt-ltb (e .key) (x .key) (strict (ltb-false (x .key) (e .key) f) (λ q. h (omega arith, sym q))))))
   where
     lt-le : x .key < e .key → x .key ≤ e .key
     lt-le l = omega arith
+
     strict : e .key ≤ x .key → (e .key ≡ x .key → ⊥) → e .key < x .key
     strict l n = omega arith
 
@@ -103,7 +104,7 @@ forget-here [] k = λ h. refl
 forget-here (x ∷ c) k =
     decide (ltb (x .key) k)
     (λ t. rw (t, ne-eqb k (x .key) (λ q. before q (ltb-true (x .key) k t)))
-      (λ h. ap (λ (r : Content). x ∷ r) (forget-here c k (le-of-suc-le-suc (h .0), h .1))))
+    (λ h. ap (λ (r : Content). x ∷ r) (forget-here c k (le-of-suc-le-suc (h .0), h .1))))
     (λ f. rw f (λ h. rw (eq-eqb k (x .key) (sym (h .1)))))
   where
     before : k ≡ x .key → x .key < k → ⊥
@@ -123,11 +124,11 @@ forget-not-here last [] k a = λ h. refl
 forget-not-here last (e ∷ c) k a =
     decide (ltb (e .key) k)
     (λ t. rw (t, ne-eqb k (e .key) (λ q. before q (ltb-true (e .key) k t)))
-      (λ h. ap (λ (r : Content). e ∷ r) (forget-not-here (e .key) c k (and-right (ltb last (e .key)) (ascends (e .key) c) a) (λ g. h (suc-le-suc (g .0), g .1)))))
-    (λ f. rw f (λ h. 
-      let differs : k ≡ e .key → ⊥ = λ q. h (omega arith, sym q) in
-      rw (ne-eqb k (e .key) differs)
-      (ap (λ (r : Content). e ∷ r) (forget-after (e .key) c k (and-right (ltb last (e .key)) (ascends (e .key) c) a) (ltb-false (e .key) k f)))))
+    (λ h. ap (λ (r : Content). e ∷ r) (forget-not-here (e .key) c k (and-right (ltb last (e .key)) (ascends (e .key) c) a) (λ g. h (suc-le-suc (g .0), g .1)))))
+    (λ f. rw f (λ h.
+    let differs : k ≡ e .key → ⊥ = λ q. h (omega arith, sym q) in
+    rw (ne-eqb k (e .key) differs)
+    (ap (λ (r : Content). e ∷ r) (forget-after (e .key) c k (and-right (ltb last (e .key)) (ascends (e .key) c) a) (ltb-false (e .key) k f)))))
   where
     before : k ≡ e .key → e .key < k → ⊥
     before q l = omega arith

@@ -78,7 +78,7 @@ store-shut : (c : Content) (i : ℕ) → i < length c → length c ≤ 32 → st
 unfolding storeTable shutTable
 store-shut c i h l =
     let n : length (take i c ++ drop (suc i) c) ≡ length c - 1 =
-          length-append (take i c) (drop (suc i) c) ∙ ap₂ _+_ (length-take-le i c (omega arith)) (length-drop (suc i) c) ∙ omega arith in
+    length-append (take i c) (drop (suc i) c) ∙ ap₂ _+_ (length-take-le i c (omega arith)) (length-drop (suc i) c) ∙ omega arith in
     let ks = column-shut keyIn 0 c i h l in
     let os = column-shut onIn false c i h l in
     let ss = column-shut shownIn emptyList c i h l in
@@ -90,7 +90,7 @@ pub forget-held : (c : Content) (k : ℕ) → length c ≤ 32 → Here c k → (
 unfolding forgottenAs forgetOutcome heldOr Here
 forget-held c k l h i p =
     let t : shutTable (storeTable c) i ≡ storeTable (forget linkage k c) =
-          ap (shutTable (storeTable c)) p ∙ sym (store-shut c (placeIn (map keyIn c) k) (h .0) l) ∙ ap storeTable (sym (forget-here c k h)) in
+    ap (shutTable (storeTable c)) p ∙ sym (store-shut c (placeIn (map keyIn c) k) (h .0) l) ∙ ap storeTable (sym (forget-here c k h)) in
     let o : Done ≡ heldOr (find linkage k c) Done = sym (ap (λ (f : Option Held). heldOr f Done) (find-here c k h)) in
     λ j. record { outcome = o j; table = t j }
 

@@ -82,7 +82,7 @@ module _ (keys : List ℕ) (count k i end : ℕ) (end-is : end ≡ min count (le
   unfolding placeIn
   place-next h a e =
       let z : placeIn (drop i (take count keys)) k ≡ suc (placeIn (drop (i + 1) (take count keys)) k) =
-            ap (λ (l : List ℕ). placeIn l k) (from-place keys count i 0 (omega arith)) ∙ rw (lt-ltb _ _ a) in
+      ap (λ (l : List ℕ). placeIn l k) (from-place keys count i 0 (omega arith)) ∙ rw (lt-ltb _ _ a) in
       omega arith
 
   pub place-end : end ≤ i → i + placeIn (drop i (take count keys)) k ≡ placeIn (take count keys) k → i ≡ placeIn (take count keys) k

@@ -134,15 +134,15 @@ module _ {A : Type 0} where
   padded-opened n d ys i v h l =
       let m : ℕ = n - length ys in
       let whole : length (ys ++ replicate (n - length ys) d) ≡ length (take i ys ++ v ∷ drop i ys) + (n - length ys - 1) =
-            length-append ys (replicate (n - length ys) d) ∙ rw (length-replicate (n - length ys) d, with-length i v ys h) (omega arith) in
+      length-append ys (replicate (n - length ys) d) ∙ rw (length-replicate (n - length ys) d, with-length i v ys h) (omega arith) in
       sym
       (ap₂ (λ (k : ℕ) (r : List A). take k r) whole
-        (ap₂ (λ (a b : List A). a ++ v ∷ b) (take-append-le i ys (replicate (n - length ys) d) h) (drop-append-le i ys (replicate (n - length ys) d) h)
-        ∙ sym (append-assoc (take i ys) (v ∷ drop i ys) (replicate (n - length ys) d)))
+      (ap₂ (λ (a b : List A). a ++ v ∷ b) (take-append-le i ys (replicate (n - length ys) d) h) (drop-append-le i ys (replicate (n - length ys) d) h)
+      ∙ sym (append-assoc (take i ys) (v ∷ drop i ys) (replicate (n - length ys) d)))
       ∙ take-append-add (take i ys ++ v ∷ drop i ys) (replicate (n - length ys) d) (n - length ys - 1)
       ∙ ap (λ (r : List A). (take i ys ++ v ∷ drop i ys) ++ r)
-        (take-replicate (n - length ys - 1) (n - length ys) d (omega arith)
-        ∙ ap (λ (k : ℕ). replicate k d) (less (length ys) n l ∙ ap (λ (k : ℕ). n - k) (sym (with-length i v ys h)))))
+      (take-replicate (n - length ys - 1) (n - length ys) d (omega arith)
+      ∙ ap (λ (k : ℕ). replicate k d) (less (length ys) n l ∙ ap (λ (k : ℕ). n - k) (sym (with-length i v ys h)))))
     where
       less : (a b : ℕ) → a < b → b - a - 1 ≡ b - (a + 1)
       less a b g = omega arith
@@ -153,12 +153,12 @@ module _ {A : Type 0} where
   padded-shut n d ys i h l =
       let k : n - length (take i ys ++ drop (suc i) ys) ≡ n - length ys + 1 = ap (λ (k : ℕ). n - k) (front-length i ys h) ∙ omega arith in
       ap (λ (r : List A). (take i ys ++ drop (suc i) ys) ++ r)
-        (ap (λ (m : ℕ). replicate m d) k ∙ sym (replicate-append-replicate (n - length ys) 1 d))
+      (ap (λ (m : ℕ). replicate m d) k ∙ sym (replicate-append-replicate (n - length ys) 1 d))
       ∙ append-assoc (take i ys) (drop (suc i) ys) (replicate (n - length ys) d ++ d ∷ [])
       ∙ ap (λ (r : List A). take i ys ++ r) (sym (append-assoc (drop (suc i) ys) (replicate (n - length ys) d) (d ∷ [])))
       ∙ sym
-        (ap₂ (λ (a b : List A). a ++ b ++ d ∷ []) (take-append-le i ys (replicate (n - length ys) d) (omega arith)) (drop-append-le (suc i) ys (replicate (n - length ys) d) h)
-        ∙ append-assoc (take i ys) (drop (suc i) ys ++ replicate (n - length ys) d) (d ∷ []))
+      (ap₂ (λ (a b : List A). a ++ b ++ d ∷ []) (take-append-le i ys (replicate (n - length ys) d) (omega arith)) (drop-append-le (suc i) ys (replicate (n - length ys) d) h)
+      ∙ append-assoc (take i ys) (drop (suc i) ys ++ replicate (n - length ys) d) (d ∷ []))
 
   -- ---- one turn of the loops that move values: `n` is the array's length
 

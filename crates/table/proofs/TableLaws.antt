@@ -65,9 +65,9 @@ module _ {ℓ} {A : Type ℓ} where
   same-from n len d e xs l h s =
       ext-getD e (drop len xs) (replicate (n - len) d)
       (length-drop len xs ∙ ap (λ (m : ℕ). m - len) l ∙ sym (length-replicate (n - len) d))
-      (λ i g. 
-        let g' : i < n - len = subst (λ (m : ℕ). i < m) (length-drop len xs ∙ ap (λ (m : ℕ). m - len) l) g in
-        getD-drop len xs i e ∙ s (len + i) (omega arith) (omega arith) ∙ sym (getD-replicate (n - len) i d e g'))
+      (λ i g.
+      let g' : i < n - len = subst (λ (m : ℕ). i < m) (length-drop len xs ∙ ap (λ (m : ℕ). m - len) l) g in
+      getD-drop len xs i e ∙ s (len + i) (omega arith) (omega arith) ∙ sym (getD-replicate (n - len) i d e g'))
 
 map-tabulate : {A B : Type 0} (f : A → B) (n : ℕ) (g : ℕ → A) → map f (tabulate n g) ≡ tabulate n (λ k. f (g k))
 unfolding tabulate
@@ -125,9 +125,11 @@ entry-facts e m =
     let a = and-left _ (ifThere (e .key) (e .draft)) m in
     let b = and-left _ (ifThere (e .key) (e .shown)) a in
     record {
-      below = and-left (ltb (e .key) 65536) _ b; numbered = and-right (ltb (e .key) 65536) _ b;
+      below = and-left (ltb (e .key) 65536) _ b;
+      numbered = and-right (ltb (e .key) 65536) _ b;
       shown = and-right (ltb (e .key) 65536 && not (eqb (e .key % 4096) 0)) _ a;
-      draft = and-right (ltb (e .key) 65536 && not (eqb (e .key % 4096) 0) && ifThere (e .key) (e .shown)) _ m }
+      draft = and-right (ltb (e .key) 65536 && not (eqb (e .key % 4096) 0) && ifThere (e .key) (e .shown)) _ m;
+    }
 
 pub entry-meets : (e : Held) → EntryFacts e → entryMeets e ≡ true
 unfolding entryMeets
@@ -185,7 +187,8 @@ meets-facts c m =
     record {
       short = leb-true _ _ (and-left (leb (length c) 32) (ascends 0 c) a);
       ascend = and-right (leb (length c) 32) (ascends 0 c) a;
-      entries = and-right (leb (length c) 32 && ascends 0 c) (entriesMeet c) m }
+      entries = and-right (leb (length c) 32 && ascends 0 c) (entriesMeet c) m;
+    }
 
 pub facts-meet : (c : Content) → MeetsFacts c → meets c ≡ true
 unfolding meets
@@ -202,7 +205,8 @@ store-facts c f =
       shown-hold = each-holds shownIn shown-holds c 32 (f .entries) (f .short);
       shown-end = none-from shownIn c 32 (f .short);
       draft-hold = each-holds draftIn draft-holds c 32 (f .entries) (f .short);
-      draft-end = none-from draftIn c 32 (f .short) }
+      draft-end = none-from draftIn c 32 (f .short);
+    }
 
 pub stored-facts : (t : Table) → Stored t → TableFacts t
 unfolding Stored
@@ -235,10 +239,12 @@ entries-by last (e ∷ c) m l =
     let r = and-right (ltb last (e .key) && ltb (e .key) 65536 && not (eqb (e .key % 4096) 0)) (keysMeet (e .key) (map keyIn c)) m in
     let a = and-left (ltb last (e .key) && ltb (e .key) 65536 && not (eqb (e .key % 4096) 0)) (keysMeet (e .key) (map keyIn c)) m in
     rw (entry-meets e
-      (record {
-        below = and-right (ltb last (e .key)) (ltb (e .key) 65536) (and-left (ltb last (e .key) && ltb (e .key) 65536) _ a);
-        numbered = and-right (ltb last (e .key) && ltb (e .key) 65536) _ a;
-        shown = l .0 .0; draft = l .0 .1 }))
+    (record {
+      below = and-right (ltb last (e .key)) (ltb (e .key) 65536) (and-left (ltb last (e .key) && ltb (e .key) 65536) _ a);
+      numbered = and-right (ltb last (e .key) && ltb (e .key) 65536) _ a;
+      shown = l .0 .0;
+      draft = l .0 .1;
+    }))
     (entries-by (e .key) c r (l .1))
 
 module _ (t : Table) (f : TableFacts t)
@@ -264,7 +270,7 @@ module _ (t : Table) (f : TableFacts t)
   shown-are =
       map-tabulate shownIn (t .count) entryAt
       ∙ tabulate-ext (t .count) (λ k. storeMaybe (listOf (getD (t .shown) k past))) (λ k. getD (t .shown) k past)
-        (λ k h. list-of-holds _ _ (f .shown-hold k (omega (arith, f .short))) .1)
+      (λ k h. list-of-holds _ _ (f .shown-hold k (omega (arith, f .short))) .1)
       ∙ tabulate-getD (t .count) (t .shown) past (omega (arith, f .short))
 
   draft-are : map draftIn contentOf ≡ take (t .count) (t .draft)
@@ -272,7 +278,7 @@ module _ (t : Table) (f : TableFacts t)
   draft-are =
       map-tabulate draftIn (t .count) entryAt
       ∙ tabulate-ext (t .count) (λ k. storeMaybe (listOf (getD (t .draft) k past))) (λ k. getD (t .draft) k past)
-        (λ k h. list-of-holds _ _ (f .draft-hold k (omega (arith, f .short))) .1)
+      (λ k h. list-of-holds _ _ (f .draft-hold k (omega (arith, f .short))) .1)
       ∙ tabulate-getD (t .count) (t .draft) past (omega (arith, f .short))
 
   length-content : length contentOf ≡ t .count
@@ -294,9 +300,9 @@ module _ (t : Table) (f : TableFacts t)
       let ks : t .keys ≡ padded 32 0 (map keyIn contentOf) = zeros-padded 32 (t .count) (t .keys) keys-long (f .short) (f .keys-end) ∙ ap (padded 32 0) (sym keys-are) in
       let os : t .on ≡ padded 32 false (map onIn contentOf) = same-padded 32 (t .count) false (t .on) on-long (f .short) on-rest ∙ ap (padded 32 false) (sym on-are) in
       let ss : t .shown ≡ padded 32 emptyList (map shownIn contentOf) =
-            lists-end (t .shown) shown-long (f .shown-hold) (f .shown-end) ∙ ap (padded 32 emptyList) (sym shown-are) in
+      lists-end (t .shown) shown-long (f .shown-hold) (f .shown-end) ∙ ap (padded 32 emptyList) (sym shown-are) in
       let ds : t .draft ≡ padded 32 emptyList (map draftIn contentOf) =
-            lists-end (t .draft) draft-long (f .draft-hold) (f .draft-end) ∙ ap (padded 32 emptyList) (sym draft-are) in
+      lists-end (t .draft) draft-long (f .draft-hold) (f .draft-end) ∙ ap (padded 32 emptyList) (sym draft-are) in
       λ i. record { count = sym length-content i; keys = ks i; on = os i; shown = ss i; draft = ds i }
 
   keys-ok : keysMeet 0 (map keyIn contentOf) ≡ true
@@ -310,8 +316,9 @@ module _ (t : Table) (f : TableFacts t)
         short = subst (λ (k : ℕ). k ≤ 32) (sym length-content) (f .short);
         ascend = ascends-by 0 contentOf keys-ok;
         entries = entries-by 0 contentOf keys-ok
-          (lists-by (t .count) entryAt (λ k h. 
-            (list-of-holds _ _ (f .shown-hold k (omega (arith, f .short))) .0, list-of-holds _ _ (f .draft-hold k (omega (arith, f .short))) .0))) })
+            (lists-by (t .count) entryAt (λ k h.
+            (list-of-holds _ _ (f .shown-hold k (omega (arith, f .short))) .0, list-of-holds _ _ (f .draft-hold k (omega (arith, f .short))) .0)));
+      })
 
   pub facts-stored : Stored t
   unfolding Stored

@@ -27,8 +27,12 @@ draftIn e = storeMaybe (e .draft)
 unfoldable pub storeTable : Content → Table
 storeTable c =
     record {
-      count = length c; keys = padded 32 0 (map keyIn c); on = padded 32 false (map onIn c);
-      shown = padded 32 emptyList (map shownIn c); draft = padded 32 emptyList (map draftIn c) }
+      count = length c;
+      keys = padded 32 0 (map keyIn c);
+      on = padded 32 false (map onIn c);
+      shown = padded 32 emptyList (map shownIn c);
+      draft = padded 32 emptyList (map draftIn c);
+    }
 
 -- what stands for a list past the end of an array
 abbrev pub past : IdList
@@ -47,8 +51,12 @@ unfoldable pub openedTable : Table → ℕ → ℕ → Bool → IdList → Table
 openedTable t at key on l =
     cond (ltb at 32 && ltb (t .count) 32)
     (record {
-      count = t .count + 1; keys = opened at key (t .keys); on = opened at on (t .on);
-      shown = opened at emptyList (t .shown); draft = opened at l (t .draft) })
+      count = t .count + 1;
+      keys = opened at key (t .keys);
+      on = opened at on (t .on);
+      shown = opened at emptyList (t .shown);
+      draft = opened at l (t .draft);
+    })
     t
 
 -- a table is the stored form of a content that meets the rules

@@ -15,7 +15,6 @@ ghost use Rattle.table.specs.Stored.{storeTable, EachHolds, NoneFrom, St
 ghost use Rattle.table.specs.Answers.{forgottenAs, copiedAs};
 ghost use Rattle.rules.specs.Outcomes.{copyOut, notCopied, overwritten};
 ghost use Rattle.table.specs.Places.{placeIn, keysMeet, allOff, opened, shut};
-
 use lists::IdList;
 use rules::Outcome;
 
@@ -299,15 +298,24 @@ pub fn forget_key(table: Table, key: u32) -> Forgotten
     ensures { λ r. ⌜ Given table (λ c. r ≡ forgottenAs key c) (r ≡ record { outcome = Outcome.WrongTable; table = table }) ⌝ }
 {
     if !table.meets() {
-        return Forgotten { outcome: Outcome::WrongTable, table };
+        return Forgotten {
+            outcome: Outcome::WrongTable,
+            table,
+        };
     }
     let count = table.count;
     let at = place_of(&table.keys, count, key);
     if count <= at {
-        return Forgotten { outcome: Outcome::NotHeld, table };
+        return Forgotten {
+            outcome: Outcome::NotHeld,
+            table,
+        };
     }
     if table.keys[at] != key {
-        return Forgotten { outcome: Outcome::NotHeld, table };
+        return Forgotten {
+            outcome: Outcome::NotHeld,
+            table,
+        };
     }
     let keys = table.keys;
     let flags = table.on;
@@ -320,7 +328,10 @@ pub fn forget_key(table: Table, key: u32) -> Forgotten
         shown: shut_list(shown, at),
         draft: shut_list(draft, at),
     };
-    Forgotten { outcome: Outcome::Done, table: left }
+    Forgotten {
+        outcome: Outcome::Done,
+        table: left,
+    }
 }
 
 // ---- copying out
@@ -362,7 +373,13 @@ pub struct Copied {
 fn not_copied(outcome: Outcome) -> Copied
     ensures { λ r. ⌜ r ≡ record { outcome = outcome; key = 0; on = Bool.false; named = 0; count = 0 } ⌝ }
 {
-    Copied { outcome, key: 0, on: false, named: 0, count: 0 }
+    Copied {
+        outcome,
+        key: 0,
+        on: false,
+        named: 0,
+        count: 0,
+    }
 }
 
 // Copies a shown set out: its key, on or off, named kinds and count, the numbers and the kinds of its
@@ -396,5 +413,11 @@ pub fn copy_out(table: Table, key: u32, numbers: &mut [u32], kinds: &mut [u8]) -
     }
     copy_u32(&set.numbers, len, numbers);
     copy_u8(&set.kinds, len, kinds);
-    Copied { outcome: Outcome::Done, key, on: table.on[at], named: set.named, count: len }
+    Copied {
+        outcome: Outcome::Done,
+        key,
+        on: table.on[at],
+        named: set.named,
+        count: len,
+    }
 }

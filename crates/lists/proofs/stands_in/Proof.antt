@@ -52,10 +52,13 @@ loop-less : tie.Need-loop-less Inv-loop μ-loop
 loop-less c = search needs
 
 loop-again : tie.Need-loop-again Inv-loop μ-loop
-loop-again c = (search needs, ⊎-elim
-    (λ w. search-next _ _ _ _ _ (c .before .before .before .before .before .before .before .before .args .from) _ _ (c .before .before .before .loop .inv .0) (c .before .before .loop-test .taken) (λ p q. w .2 .left q) (c .before .before .before .loop .inv .1))
-    (λ w. search-next _ _ _ _ _ (c .before .before .before .before .before .before .before .before .args .from) _ _ (c .before .before .before .loop .inv .0) (c .before .before .loop-test .taken) (λ p q. w .left p) (c .before .before .before .loop .inv .1))
-    (c .if1 .came))
+loop-again c = (
+  search needs,
+  ⊎-elim
+      (λ w. search-next _ _ _ _ _ (c .before .before .before .before .before .before .before .before .args .from) _ _ (c .before .before .before .loop .inv .0) (c .before .before .loop-test .taken) (λ p q. w .2 .left q) (c .before .before .before .loop .inv .1))
+      (λ w. search-next _ _ _ _ _ (c .before .before .before .before .before .before .before .before .args .from) _ _ (c .before .before .before .loop .inv .0) (c .before .before .loop-test .taken) (λ p q. w .left p) (c .before .before .before .loop .inv .1))
+      (c .if1 .came),
+)
 
 returns-2 : tie.Need-returns-2 Inv-loop μ-loop
 returns-2 c = search-end _ _ _ _ _ (c .before .before .before .before .before .before .args .from) _ _ (c .before .loop .inv .0) (c .loop-test .left) (c .before .loop .inv .1)

@@ -25,7 +25,7 @@ run-blocks-requires c κs = c .before .meets .ensures .sound (not-false _ (c .if
 
 returns-2 : tie.Need-returns-2
 unfolding Runs
-returns-2 c = 
+returns-2 c =
     let w = c .before .run-blocks .ensures in
     stored (w .0) (w .1) (w .2) (recorded (w .0) _ _ (w .3))
 

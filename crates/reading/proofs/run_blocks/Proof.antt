@@ -142,9 +142,9 @@ loop-again c =
     let b = sym (c .before .before .before .before .before .before .before .before .stands-at .ensures) ∙ c .before .before .before .before .before .before .before .if2 .taken in
     ⊎-elim
     (λ v. turn-shows _ _ _ _ _ _ _ _ _ (l .inv) h _ body-is _ (c .before .before .before .before .before .before .before .before .before .before .before .before .before .before .before .before .before .field .ensures) _ (c .before .before .before .before .before .before .before .before .before .before .before .before .before .before .before .before .key .ensures) _ (c .before .before .before .before .before .before .before .before .before .before .before .before .place-of .ensures) b
-      (c .before .before .before .before .on-held .result) (c .before .before .before .before .on-held .ensures) _ _ (c .noted .ensures) (v .0 .taken) (v .1))
+    (c .before .before .before .before .on-held .result) (c .before .before .before .before .on-held .ensures) _ _ (c .noted .ensures) (v .0 .taken) (v .1))
     (λ v. turn-keeps _ _ _ _ _ _ _ _ _ (l .inv) h _ body-is _ (c .before .before .before .before .before .before .before .before .before .before .before .before .before .before .before .before .before .field .ensures) _ (c .before .before .before .before .before .before .before .before .before .before .before .before .before .before .before .before .key .ensures) _ (c .before .before .before .before .before .before .before .before .before .before .before .before .place-of .ensures) b
-      (c .before .before .before .before .on-held .result) (c .before .before .before .before .on-held .ensures) _ _ (c .noted .ensures) (v .0 .left) (v .1))
+    (c .before .before .before .before .on-held .result) (c .before .before .before .before .on-held .ensures) _ _ (c .noted .ensures) (v .0 .left) (v .1))
     (c .before .before .if3 .came)
 
 opens-requires : tie.Need-opens-requires Inv-loop μ-loop

@@ -85,12 +85,12 @@ returns-6 c = given-right (c .before .before .before .before .before .before .be
     ∙ copies-short-kinds _ d m e _ _ (c .before .before .before .before .before .before .before .before .place-of .ensures) (is-here _ d e _ _ (c .before .before .before .before .before .before .before .before .place-of .ensures) (c .before .before .before .before .before .before .before .if2 .left) (c .before .before .before .before .before .if3 .left)) _ _ (c .before .before .if5 .left) (c .before .if6 .taken))
 
 copy-u32-requires : tie.Need-copy-u32-requires
-copy-u32-requires c κs = 
+copy-u32-requires c κs =
     let r = tested-shown (c .before .before .before .before .before .before .before .before .before .before .before .before .before .before .before .before .before .before .before .args .t1) (c .before .before .before .before .before .before .before .before .before .before .before .before .before .before .before .before .meets .ensures) (not-false _ (c .before .before .before .before .before .before .before .before .before .before .before .before .before .before .before .if1 .left)) _ (c .before .before .before .before .before .before .before .before .before .before .if2 .left) in
     (omega (arith, r .short, r .numbers-long), c .before .before .before .before .before .if5 .left)
 
 copy-u8-requires : tie.Need-copy-u8-requires
-copy-u8-requires c κs = 
+copy-u8-requires c κs =
     let r = tested-shown (c .before .before .before .before .before .before .before .before .before .before .before .before .before .before .before .before .before .before .before .before .before .before .before .before .before .before .args .t1) (c .before .before .before .before .before .before .before .before .before .before .before .before .before .before .before .before .before .before .before .before .before .before .before .meets .ensures) (not-false _ (c .before .before .before .before .before .before .before .before .before .before .before .before .before .before .before .before .before .before .before .before .before .before .if1 .left)) _ (c .before .before .before .before .before .before .before .before .before .before .before .before .before .before .before .before .before .if2 .left) in
     (omega (arith, r .short, r .kinds-long), c .before .before .before .before .before .before .before .before .before .before .before .if6 .left)
 

@@ -59,19 +59,22 @@ returns c =
     let n : c .before .before .before .least .result ≡ length (pairsIn (a .t3 .kinds) (a .t3 .numbers) (a .t3 .len)) =
     omega (arith, c .before .before .before .least .ensures, length-pairs-in (a .t3 .kinds) (a .t3 .numbers) (a .t3 .len)) in
     let size =
-          length-line (a .key) (a .on) (a .t3)
-          (c .before .before .state-size .ensures .0)
-          (c .before .decimal-size .ensures .0 ∙ ap (λ (k : ℕ). length (decimal k)) n)
-          (c .pairs-size .ensures .0 ∙ ap (λ (k : ℕ). k * (2 + 2 * keyWidth (a .key))) n)
-          (c .before .before .before .before .before .before .before .before .before .before .mark-size .ensures .0)
-          (c .before .before .before .before .mark-size2 .ensures .0) in
-    (size,
-      omega (arith,
+    length-line (a .key) (a .on) (a .t3)
+    (c .before .before .state-size .ensures .0)
+    (c .before .decimal-size .ensures .0 ∙ ap (λ (k : ℕ). length (decimal k)) n)
+    (c .pairs-size .ensures .0 ∙ ap (λ (k : ℕ). k * (2 + 2 * keyWidth (a .key))) n)
+    (c .before .before .before .before .before .before .before .before .before .before .mark-size .ensures .0)
+    (c .before .before .before .before .mark-size2 .ensures .0) in (
+      size,
+      omega (
+        arith,
         c .before .before .state-size .ensures .1,
         c .before .decimal-size .ensures .1,
         c .pairs-size .ensures .1,
         c .before .before .before .before .before .before .before .before .before .before .mark-size .ensures .1,
-        c .before .before .before .before .mark-size2 .ensures .1))
+        c .before .before .before .before .mark-size2 .ensures .1,
+      ),
+    )
 
 pub line-size-spec : {M : Type 1} → statement M
 line-size-spec =

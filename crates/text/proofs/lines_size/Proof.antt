@@ -58,8 +58,14 @@ loop-again c =
     let inside = c .before .before .before .loop-test .taken in
     ⊎-elim
     (λ w. (
-      omega (arith, at .inv .0, w .4, w .3 .ensures .0, ap length (lines-next t (at .i) (t .count) inside (w .0 .taken)),
-        length-append (lineOf (shownAs (getD (t .keys) (at .i) 0) (getD (t .on) (at .i) false) (getD (t .shown) (at .i) past))) (linesOf (setsFrom t (at .i + 1) (t .count - (at .i + 1))))),
+      omega (
+        arith,
+        at .inv .0,
+        w .4,
+        w .3 .ensures .0,
+        ap length (lines-next t (at .i) (t .count) inside (w .0 .taken)),
+        length-append (lineOf (shownAs (getD (t .keys) (at .i) 0) (getD (t .on) (at .i) false) (getD (t .shown) (at .i) past))) (linesOf (setsFrom t (at .i + 1) (t .count - (at .i + 1)))),
+      ),
       omega (arith, at .inv .1, w .4, w .3 .ensures .1),
       omega (arith, inside),
     ))

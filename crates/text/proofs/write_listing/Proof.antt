@@ -41,9 +41,12 @@ returns-2 : tie.Need-returns-2
 returns-2 c =
     let a = c .before .before .before .before .before .before .before .before .args in
     given-right (c .before .before .before .before .before .before .meets .ensures) (not-false _ (c .before .before .before .before .before .if1 .left)) (λ d m e.
-      written-short _ _
-      (omega (arith, c .if2 .taken,
-        listing-size (a .table) d m e (a .over) _ (c .before .before .before .before .shown-count .ensures) (c .before .before .before .first-size .ensures .0) (c .before .before .lines-size .ensures .0) (c .before .tail-size .ensures .0))))
+    written-short _ _
+    (omega (
+      arith,
+      c .if2 .taken,
+      listing-size (a .table) d m e (a .over) _ (c .before .before .before .before .shown-count .ensures) (c .before .before .before .first-size .ensures .0) (c .before .before .lines-size .ensures .0) (c .before .tail-size .ensures .0),
+    )))
 
 put-first-requires : tie.Need-put-first-requires
 put-first-requires c κs = search needs
@@ -62,11 +65,14 @@ returns-3 c =
     let a = c .before .before .before .before .before .before .before .before .before .before .before .before .before .before .before .before .before .before .before .before .args in
     let n = c .before .before .before .before .before .before .before .before .before .before .before .before .before .before .before .before .shown-count .ensures in
     given-right (c .before .before .before .before .before .before .before .before .before .before .before .before .before .before .before .before .before .before .meets .ensures) (not-false _ (c .before .before .before .before .before .before .before .before .before .before .before .before .before .before .before .before .before .if1 .left)) (λ d m e.
-      written-done
-      (omega (arith, c .before .before .before .before .before .before .before .before .before .before .before .before .if2 .left,
-        listing-size (a .table) d m e (a .over) _ n (c .before .before .before .before .before .before .before .before .before .before .before .before .before .before .before .first-size .ensures .0) (c .before .before .before .before .before .before .before .before .before .before .before .before .before .before .lines-size .ensures .0) (c .before .before .before .before .before .before .before .before .before .before .before .before .before .tail-size .ensures .0)))
-      (puts-as (listing-of (a .table) d m e (a .over) _ n)
-        (puts-then (puts-then (c .before .before .before .before .before .before .before .before .before .before .put-first .ensures) (c .before .before .before .before .before .before .put-lines .ensures)) (c .before .before .put-tail .ensures))))
+    written-done
+    (omega (
+      arith,
+      c .before .before .before .before .before .before .before .before .before .before .before .before .if2 .left,
+      listing-size (a .table) d m e (a .over) _ n (c .before .before .before .before .before .before .before .before .before .before .before .before .before .before .before .first-size .ensures .0) (c .before .before .before .before .before .before .before .before .before .before .before .before .before .before .lines-size .ensures .0) (c .before .before .before .before .before .before .before .before .before .before .before .before .before .tail-size .ensures .0),
+    ))
+    (puts-as (listing-of (a .table) d m e (a .over) _ n)
+    (puts-then (puts-then (c .before .before .before .before .before .before .before .before .before .before .put-first .ensures) (c .before .before .before .before .before .before .put-lines .ensures)) (c .before .before .put-tail .ensures))))
 
 pub write-listing-spec : {M : Type 1} → statement M
 write-listing-spec =

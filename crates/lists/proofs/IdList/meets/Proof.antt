@@ -69,16 +69,18 @@ returns-8 c =
     let kl : length (c .before .before .before .before .before .before .before .before .before .before .before .before .before .before .before .before .before .before .before .before .before .before .before .before .before .before .before .before .before .args .t1 .kinds) ≡ 128 = search needs in
     record {
       sound = λ e. holds-by _ _
-        (record {
-          short = c .before .before .before .before .before .before .before .before .before .before .before .before .before .before .before .before .before .before .before .before .before .before .before .before .before .before .before .before .if1 .left;
-          numbers-end = sym (c .before .before .before .before .before .before .before .before .before .before .before .before .before .before .before .before .before .before .before .before .before .before .before .before .zeros-u32 .ensures) ∙ not-false _ (c .before .before .before .before .before .before .before .before .before .before .before .before .before .before .before .before .before .before .before .before .before .before .before .if2 .left);
-          kinds-end = sym (c .before .before .before .before .before .before .before .before .before .before .before .before .before .before .before .before .before .before .before .zeros-u8 .ensures) ∙ not-false _ (c .before .before .before .before .before .before .before .before .before .before .before .before .before .before .before .before .before .before .if3 .left);
-          unnamed = λ z. absurd (c .before .before .before .before .before .before .before .before .before .before .before .before .before .before .before .before .before .if4 .left z);
-          first = λ n. c .before .before .before .before .before .before .before .before .before .before .before .before .before .before .before .if5 .left;
-          names = λ n. sym (c .before .before .before .before .before .before .before .before .before .before .before .before .before .before .names-meet .ensures) ∙ not-false _ (c .before .before .before .before .before .before .before .before .before .before .before .before .before .if6 .left);
-          pairs = λ n. sym (c .before .before .before .before .before .before .before .pairs-meet .ensures) ∙ not-false _ (c .before .before .before .before .before .before .if7 .left);
-          differ = λ n. sym (c .all-differ .ensures) ∙ e }) nl kl;
-      complete = λ h. c .all-differ .ensures ∙ holds-facts _ _ h .differ (c .before .before .before .before .before .before .before .before .before .before .before .before .before .before .before .before .before .if4 .left) }
+          (record {
+            short = c .before .before .before .before .before .before .before .before .before .before .before .before .before .before .before .before .before .before .before .before .before .before .before .before .before .before .before .before .if1 .left;
+            numbers-end = sym (c .before .before .before .before .before .before .before .before .before .before .before .before .before .before .before .before .before .before .before .before .before .before .before .before .zeros-u32 .ensures) ∙ not-false _ (c .before .before .before .before .before .before .before .before .before .before .before .before .before .before .before .before .before .before .before .before .before .before .before .if2 .left);
+            kinds-end = sym (c .before .before .before .before .before .before .before .before .before .before .before .before .before .before .before .before .before .before .before .zeros-u8 .ensures) ∙ not-false _ (c .before .before .before .before .before .before .before .before .before .before .before .before .before .before .before .before .before .before .if3 .left);
+            unnamed = λ z. absurd (c .before .before .before .before .before .before .before .before .before .before .before .before .before .before .before .before .before .if4 .left z);
+            first = λ n. c .before .before .before .before .before .before .before .before .before .before .before .before .before .before .before .if5 .left;
+            names = λ n. sym (c .before .before .before .before .before .before .before .before .before .before .before .before .before .before .names-meet .ensures) ∙ not-false _ (c .before .before .before .before .before .before .before .before .before .before .before .before .before .if6 .left);
+            pairs = λ n. sym (c .before .before .before .before .before .before .before .pairs-meet .ensures) ∙ not-false _ (c .before .before .before .before .before .before .if7 .left);
+            differ = λ n. sym (c .all-differ .ensures) ∙ e;
+          }) nl kl;
+      complete = λ h. c .all-differ .ensures ∙ holds-facts _ _ h .differ (c .before .before .before .before .before .before .before .before .before .before .before .before .before .before .before .before .before .if4 .left);
+    }
 
 pub meets-spec : {M : Type 1} → statement M
 meets-spec =

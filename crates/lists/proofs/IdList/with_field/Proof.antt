@@ -38,7 +38,7 @@ join-names-requires : tie.Need-join-names-requires Inv-loop μ-loop
 join-names-requires c κs = search needs
 
 loop-holds : tie.Need-loop-holds Inv-loop μ-loop
-loop-holds c = 
+loop-holds c =
     (omega arith, (search needs, (refl, grown-first _ _ _ _)))
 
 identifier-requires : tie.Need-identifier-requires Inv-loop μ-loop
@@ -58,11 +58,11 @@ empty-requires c κs = search needs
 
 returns : tie.Need-returns Inv-loop μ-loop
 unfolding grownAs renamed
-returns c = 
+returns c =
     (λ i. record { fits = false; list = c .empty .ensures i })
     ∙ with-field-is _ _ _ _ _ none (c .before .before .before .before .before .before .before .before .before .before .before .before .before .before .before .named-by .ensures) (c .before .before .before .before .before .before .before .before .before .before .before .before .before .before .join-names .ensures)
-      (sym (c .before .before .before .before .before .before .before .before .before .before .before .before .before .loop .inv .1 .1 .1)
-      ∙ grown-full _ _ _ _ _ _ _ _ (c .before .before .before .before .before .before .before .before .before .before .before .identifier .ensures) (c .before .before .before .before .before .before .before .before .before .before .kind .ensures) (c .before .before .before .before .before .before .before .before .before .number .ensures) _ (c .before .before .before .stands-in .ensures) (not-true _ (c .before .before .if1 .taken)) (c .before .before .before .before .before .before .before .before .before .before .before .before .loop-test .taken) (c .before .if2 .taken))
+    (sym (c .before .before .before .before .before .before .before .before .before .before .before .before .before .loop .inv .1 .1 .1)
+    ∙ grown-full _ _ _ _ _ _ _ _ (c .before .before .before .before .before .before .before .before .before .before .before .identifier .ensures) (c .before .before .before .before .before .before .before .before .before .before .kind .ensures) (c .before .before .before .before .before .before .before .before .before .number .ensures) _ (c .before .before .before .stands-in .ensures) (not-true _ (c .before .before .if1 .taken)) (c .before .before .before .before .before .before .before .before .before .before .before .before .loop-test .taken) (c .before .if2 .taken))
 
 mul-next : tie.Need-mul-next Inv-loop μ-loop
 mul-next c = search needs
@@ -84,14 +84,23 @@ loop-less c = search needs
 
 loop-again : tie.Need-loop-again Inv-loop μ-loop
 unfolding put pair
-loop-again c = (omega arith, (c .before .before .before .before .before .before .before .before .before .before .before .loop .inv .1 .0, (c .before .before .before .before .before .before .before .before .before .before .before .loop .inv .1 .1 .0, ⊎-elim
-    (λ w. grown-from _ _ _ _ (w .2) (grown-put _ _ _ _ _ _ _ _ (c .before .before .before .before .before .before .before .before .before .identifier .ensures) (c .before .before .before .before .before .before .before .before .kind .ensures) (c .before .before .before .before .before .before .before .number .ensures) _ (c .before .stands-in .ensures) (not-true _ (w .0 .taken)) (c .before .before .before .before .before .before .before .before .before .before .loop-test .taken) (w .1 .left) ∙ c .before .before .before .before .before .before .before .before .before .before .before .loop .inv .1 .1 .1))
-    (λ w. grown-from _ _ _ _ (w .1) (grown-there _ _ _ _ _ _ _ _ (c .before .before .before .before .before .before .before .before .before .identifier .ensures) (c .before .before .before .before .before .before .before .before .kind .ensures) (c .before .before .before .before .before .before .before .number .ensures) _ (c .before .stands-in .ensures) (not-false _ (w .0 .left)) (c .before .before .before .before .before .before .before .before .before .before .loop-test .taken) ∙ c .before .before .before .before .before .before .before .before .before .before .before .loop .inv .1 .1 .1))
-    (c .if1 .came))))
+loop-again c = (
+  omega arith,
+  (
+    c .before .before .before .before .before .before .before .before .before .before .before .loop .inv .1 .0,
+    (
+      c .before .before .before .before .before .before .before .before .before .before .before .loop .inv .1 .1 .0,
+      ⊎-elim
+          (λ w. grown-from _ _ _ _ (w .2) (grown-put _ _ _ _ _ _ _ _ (c .before .before .before .before .before .before .before .before .before .identifier .ensures) (c .before .before .before .before .before .before .before .before .kind .ensures) (c .before .before .before .before .before .before .before .number .ensures) _ (c .before .stands-in .ensures) (not-true _ (w .0 .taken)) (c .before .before .before .before .before .before .before .before .before .before .loop-test .taken) (w .1 .left) ∙ c .before .before .before .before .before .before .before .before .before .before .before .loop .inv .1 .1 .1))
+          (λ w. grown-from _ _ _ _ (w .1) (grown-there _ _ _ _ _ _ _ _ (c .before .before .before .before .before .before .before .before .before .identifier .ensures) (c .before .before .before .before .before .before .before .before .kind .ensures) (c .before .before .before .before .before .before .before .number .ensures) _ (c .before .stands-in .ensures) (not-false _ (w .0 .left)) (c .before .before .before .before .before .before .before .before .before .before .loop-test .taken) ∙ c .before .before .before .before .before .before .before .before .before .before .before .loop .inv .1 .1 .1))
+          (c .if1 .came),
+    ),
+  ),
+)
 
 returns-2 : tie.Need-returns-2 Inv-loop μ-loop
 unfolding grownAs renamed
-returns-2 c = 
+returns-2 c =
     with-field-is _ _ _ _ _ (some (c .before .loop .next)) (c .before .before .before .named-by .ensures) (c .before .before .join-names .ensures)
     (sym (c .before .loop .inv .1 .1 .1) ∙ grown-end _ _ _ _ _ (c .loop-test .left))
 

@@ -68,16 +68,18 @@ returns-8 c =
     let dl : length (c .before .before .before .before .before .before .before .before .before .before .before .before .before .before .before .before .before .before .before .before .before .before .before .before .before .before .args .t1 .draft) ≡ 32 = search (length-of-map, needs) in
     record {
       sound = λ e. facts-stored _
-        (record {
-          short = c .before .before .before .before .before .before .before .before .before .before .before .before .before .before .before .before .before .before .before .before .before .before .before .before .before .if1 .left;
-          keys-meet = sym (c .before .before .before .before .before .before .before .before .before .before .before .before .before .before .before .before .before .before .before .before .before .keys-meet .ensures) ∙ not-false _ (c .before .before .before .before .before .before .before .before .before .before .before .before .before .before .before .before .before .before .before .before .if2 .left);
-          keys-end = sym (c .before .before .before .before .before .before .before .before .before .before .before .before .before .before .before .before .zeros-u32 .ensures) ∙ not-false _ (c .before .before .before .before .before .before .before .before .before .before .before .before .before .before .before .if3 .left);
-          on-end = sym (c .before .before .before .before .before .before .before .before .before .before .before .all-off .ensures) ∙ not-false _ (c .before .before .before .before .before .before .before .before .before .before .if4 .left);
-          shown-hold = c .before .before .before .before .before .before .lists-meet .ensures .sound (not-false _ (c .before .before .before .before .before .if5 .left));
-          shown-end = c .before .before .before .before .none-from .ensures .sound (not-false _ (c .before .before .before .if6 .left));
-          draft-hold = c .before .before .lists-meet2 .ensures .sound (not-false _ (c .before .if7 .left));
-          draft-end = c .none-from2 .ensures .sound e }) kl ol sl dl;
-      complete = λ s. c .none-from2 .ensures .complete (stored-facts _ s .draft-end) }
+          (record {
+            short = c .before .before .before .before .before .before .before .before .before .before .before .before .before .before .before .before .before .before .before .before .before .before .before .before .before .if1 .left;
+            keys-meet = sym (c .before .before .before .before .before .before .before .before .before .before .before .before .before .before .before .before .before .before .before .before .before .keys-meet .ensures) ∙ not-false _ (c .before .before .before .before .before .before .before .before .before .before .before .before .before .before .before .before .before .before .before .before .if2 .left);
+            keys-end = sym (c .before .before .before .before .before .before .before .before .before .before .before .before .before .before .before .before .zeros-u32 .ensures) ∙ not-false _ (c .before .before .before .before .before .before .before .before .before .before .before .before .before .before .before .if3 .left);
+            on-end = sym (c .before .before .before .before .before .before .before .before .before .before .before .all-off .ensures) ∙ not-false _ (c .before .before .before .before .before .before .before .before .before .before .if4 .left);
+            shown-hold = c .before .before .before .before .before .before .lists-meet .ensures .sound (not-false _ (c .before .before .before .before .before .if5 .left));
+            shown-end = c .before .before .before .before .none-from .ensures .sound (not-false _ (c .before .before .before .if6 .left));
+            draft-hold = c .before .before .lists-meet2 .ensures .sound (not-false _ (c .before .if7 .left));
+            draft-end = c .none-from2 .ensures .sound e;
+          }) kl ol sl dl;
+      complete = λ s. c .none-from2 .ensures .complete (stored-facts _ s .draft-end);
+    }
 
 pub meets-spec : {M : Type 1} → statement M
 meets-spec =
