@@ -20,7 +20,8 @@ from material import (DAB, DRM, FLAGS, RDS, faulty_block, largest_sheet, long_sh
                       random_keys, random_pairs, sheet_bytes)
 from scenes import EXAMPLE
 from script import Script
-from second.listing import listing
+from second.columns import csv_text, table_text
+from second.listing import listing, table_of
 
 HERE = os.path.dirname(os.path.abspath(__file__))
 
@@ -359,6 +360,8 @@ def all_files():
     for name, recording in recordings().items():
         files["listing/" + name + ".fib"] = recording
         files["listing/" + name + ".txt"] = "".join(line + "\n" for line in listing(recording)).encode("ascii")
+        files["listing/" + name + ".table"] = table_text(table_of(recording)).encode("ascii")
+        files["listing/" + name + ".csv"] = csv_text(table_of(recording)).encode("ascii")
     return files, {name: script.seen for name, script in scripts.items()}
 
 

@@ -44,17 +44,20 @@ def set_line(key, entry):
     return " ".join(words + id_texts(key, ids.pairs) + dead_link_texts(ids))
 
 
+def table_of(recording):
+    """The table that the whole blocks of a recording leave."""
+    table = {}
+    for place in range(0, len(recording) // BLOCK_SIZE * BLOCK_SIZE, BLOCK_SIZE):
+        read_block(table, recording[place:place + BLOCK_SIZE])
+    return table
+
+
 def listing(recording):
     """The lines for a recording; what is left after the whole blocks is only counted."""
-    table = {}
-    whole = len(recording) // BLOCK_SIZE * BLOCK_SIZE
-    for place in range(0, whole, BLOCK_SIZE):
-        read_block(table, recording[place:place + BLOCK_SIZE])
-    shown = shown_sets(table)
+    shown = shown_sets(table_of(recording))
     lines = ["sets %d" % len(shown)] + [set_line(key, entry) for key, entry in shown]
-    if whole < len(recording):
-        lines.append("tail %d" % (len(recording) - whole))
-    return lines
+    rest = len(recording) % BLOCK_SIZE
+    return lines + ["tail %d" % rest] if rest else lines
 
 
 def main():

@@ -1,6 +1,7 @@
 // Standard input and output for the programs: a recording into a table, and an output's first bytes.
 // No contract can say what is read or written; what is done with it is proved in the crates below.
 ghost use Rattle.table.specs.Stored.{Stored};
+use libc::STDERR_FILENO;
 use libc::STDIN_FILENO;
 use libc::STDOUT_FILENO;
 use reading::Recorded;
@@ -67,9 +68,25 @@ pub fn receive() -> Received
     }
 }
 
+// Writes the first n bytes of an output to an open file; nothing where there are fewer.
+fn write_front(file: i32, out: &[u8], n: usize) {
+    if n <= out.len() {
+        io::write_all(file, &out[..n]);
+    }
+}
+
 // Writes the first n bytes of an output to standard output; nothing where there are fewer.
 pub fn emit(out: &[u8], n: usize) {
-    if n <= out.len() {
-        io::write_all(STDOUT_FILENO, &out[..n]);
+    write_front(STDOUT_FILENO, out, n);
+}
+
+// Says on standard error how many bytes at the end of a recording made no block, if there were any.
+pub fn tell_rest(rest: usize) {
+    if rest != 0 {
+        let mut line = [0u8; 64];
+        let p = out::put_bytes(&mut line, 0, b"a rest of ");
+        let q = out::put_decimal(&mut line, p, rest);
+        let n = out::put_bytes(&mut line, q, b" bytes at the end is no block\n");
+        write_front(STDERR_FILENO, &line, n);
     }
 }

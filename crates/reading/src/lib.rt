@@ -31,11 +31,7 @@ struct Stepped {
 fn step_of(draft: IdList, shows: bool, note: Note) -> Stepped
     ensures { λ r. ⌜ r ≡ record { draft = draft; shows = shows; note = note } ⌝ }
 {
-    Stepped {
-        draft,
-        shows,
-        note,
-    }
+    Stepped { draft, shows, note }
 }
 
 // A field of a held key.

@@ -1,11 +1,11 @@
--- `console::emit` is safe: the part is as long as it says.
+-- `console::write_front` is safe: the part is as long as it says.
 use mathlib.Core.Path.{sym}
 use lib.Seq.{length-take-le}
 use borrow.Author.Needs.{needs}
-use Rattle.console.proofs.emit.Statement.{statement}
-use Rattle.console.proofs.emit.Tie as tie
-use Rattle.console.proofs.emit.Reads as reads
-use Rattle.console.proofs.emit.Lts as lts
+use Rattle.console.proofs.write_front.Statement.{statement}
+use Rattle.console.proofs.write_front.Tie as tie
+use Rattle.console.proofs.write_front.Reads as reads
+use Rattle.console.proofs.write_front.Lts as lts
 use Rattle.io.proofs.write_all.Reads as write-all-reads
 
 -- src/lib.rt:62:38
@@ -24,5 +24,5 @@ returns c = search needs
 returns-2 : tie.Need-returns-2
 returns-2 c = search needs
 
-pub emit-spec : {M : Type 1} → statement M
-emit-spec = tie.close (tie.spec slice-aggregate-write-all write-all-requires returns returns-2)
+pub write-front-spec : {M : Type 1} → statement M
+write-front-spec = tie.close (tie.spec slice-aggregate-write-all write-all-requires returns returns-2)
