@@ -1,6 +1,7 @@
 -- The contracts of the public functions that are given a table, each with a name, as their `ensures` have them.
 use Prim.Native.Nat.{ℕ}
 use mathlib.Core.Path.{_≡_}
+use mathlib.Core.Bool.{Bool}
 use mathlib.Core.List.{List}
 use Rattle.rules.specs.declared.Outcome.the-variants.{WrongTable}
 use Rattle.rules.specs.Outcomes.{readBlock, copyOut, notCopied}
@@ -16,6 +17,7 @@ use Rattle.reading.specs.declared.Recorded.{Recorded}
 use Rattle.reading.specs.Runs.{runAs, refusedTable, recordedAs, unrecorded}
 use Rattle.out.specs.declared.Written.{Written}
 use Rattle.out.specs.Answer.{writtenAs}
+use Rattle.columns.specs.Columns.{columns}
 
 abbrev pub ReadsBlock : Table → List ℕ → Answer → Type 0
 ReadsBlock t fib r = Given t (λ c. r ≡ runAs (readBlock c fib)) (r ≡ refusedTable t)
@@ -34,3 +36,8 @@ CopiesOut t k ns ks r ms js = Given t (λ c. copiedAs r ms js ≡ copyOut k c ns
 abbrev pub WritesListing : Table → ℕ → List ℕ → Written → List ℕ → Type 0
 WritesListing t over old r new =
     Given t (λ c. writtenAs r new ≡ writtenTo (listing c over) old) (writtenAs r new ≡ record { outcome = WrongTable; size = 0; buffer = old })
+
+-- for a spreadsheet or for eyes, the buffer before, the answer, the buffer after
+abbrev pub WritesColumns : Table → Bool → List ℕ → Written → List ℕ → Type 0
+WritesColumns t csv old r new =
+    Given t (λ c. writtenAs r new ≡ writtenTo (columns csv c) old) (writtenAs r new ≡ record { outcome = WrongTable; size = 0; buffer = old })

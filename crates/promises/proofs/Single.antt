@@ -1,5 +1,5 @@
 -- A contract about a given table admits a single answer. In order: the general law (`given-single`); reading a block, a
--- recording, forgetting, copying out with both buffers, the listing with its buffer; a test.
+-- recording, forgetting, copying out with both buffers, the listing and the columns with their buffer; a test.
 use Prim.Native.Nat.{ℕ}
 use mathlib.Core.Path.{_≡_, refl, sym, ap, _∙_}
 use mathlib.Core.Bool.{Bool, true, false}
@@ -21,7 +21,8 @@ use Rattle.reading.specs.declared.Recorded.{Recorded}
 use Rattle.reading.specs.Runs.{runAs, recordedAs}
 use Rattle.out.specs.declared.Written.{Written}
 use Rattle.out.specs.Answer.{writtenAs}
-use Rattle.promises.proofs.Contracts.{ReadsBlock, ReadsRecording, Forgets, CopiesOut, WritesListing}
+use Rattle.columns.specs.Columns.{columns}
+use Rattle.promises.proofs.Contracts.{ReadsBlock, ReadsRecording, Forgets, CopiesOut, WritesListing, WritesColumns}
 use Rattle.promises.proofs.Injective.{same-content}
 
 -- where an answer is what the content gives, or else one certain thing, two answers are the same
@@ -64,6 +65,11 @@ pub write-listing-single : (t : Table) (over : ℕ) (old : List ℕ) (r q : Writ
     → WritesListing t over old r new → WritesListing t over old q other → (r ≡ q) × (new ≡ other)
 write-listing-single t over old r q new other a b =
     written-apart r q new other (given-single t (writtenAs r new) (writtenAs q other) _ (λ c. writtenTo (listing c over) old) a b)
+
+pub write-columns-single : (t : Table) (csv : Bool) (old : List ℕ) (r q : Written) (new other : List ℕ)
+    → WritesColumns t csv old r new → WritesColumns t csv old q other → (r ≡ q) × (new ≡ other)
+write-columns-single t csv old r q new other a b =
+    written-apart r q new other (given-single t (writtenAs r new) (writtenAs q other) _ (λ c. writtenTo (columns csv c) old) a b)
 
 -- a test that is sound and complete, as that of the table rules
 pub tested-single : {P : Type 0} (a b : Bool) → Tested a P → Tested b P → a ≡ b

@@ -1,8 +1,9 @@
 -- What writes an output of a table into a lent buffer has a numbered outcome, and every refusal leaves the buffer as it was
--- (document 01, demand 1): one law over the output; by it the listing, the sheet and the blocks for air. Last, loading a sheet.
+-- (document 01, demand 1): one law over the output; by it the listing, the columns, the sheet and the blocks for air. Last, loading
+-- a sheet.
 use Prim.Native.Nat.{ℕ, _≤_, _<_}
 use mathlib.Core.Path.{_≡_, ap, _∙_}
-use mathlib.Core.Bool.{true}
+use mathlib.Core.Bool.{Bool, true}
 use mathlib.Core.List.{List, [], _++_}
 use lib.ListN.{length, drop}
 use lib.Dec.{ltb}
@@ -23,7 +24,8 @@ use Rattle.sheet.specs.declared.Loaded.{Loaded}
 use Rattle.sheet.specs.Writing.{Writes, notWritten}
 use Rattle.sheet.specs.Loading.{Loads}
 use Rattle.air.proofs.Output.{WritesAir}
-use Rattle.promises.proofs.Contracts.{WritesListing}
+use Rattle.columns.specs.Columns.{columns}
+use Rattle.promises.proofs.Contracts.{WritesListing, WritesColumns}
 
 module _ (F : Content → List ℕ) (t : Table) (old : List ℕ) (r : Written) (new : List ℕ) where
   pub data WriteAnswer : Type 0 where
@@ -52,6 +54,10 @@ module _ (F : Content → List ℕ) (t : Table) (old : List ℕ) (r : Written) (
 pub write-listing-answers : (t : Table) (over : ℕ) (old : List ℕ) (r : Written) (new : List ℕ)
     → WritesListing t over old r new → WriteAnswer (λ c. listing c over) t old r new
 write-listing-answers t over old r new w = write-answers (λ c. listing c over) t old r new w
+
+pub write-columns-answers : (t : Table) (csv : Bool) (old : List ℕ) (r : Written) (new : List ℕ)
+    → WritesColumns t csv old r new → WriteAnswer (columns csv) t old r new
+write-columns-answers t csv old r new w = write-answers (columns csv) t old r new w
 
 pub write-sheet-answers : (t : Table) (old : List ℕ) (r : Written) (new : List ℕ) → Writes t old r new → WriteAnswer sheet t old r new
 unfolding notWritten

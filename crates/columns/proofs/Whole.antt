@@ -1,0 +1,33 @@
+-- Laws of the sets of a table in columns. In order: what stands at a place of its arrays; the text of a stored table, and how
+-- long it is.
+use Prim.Native.Nat.{ℕ, _+_, _-_, _<_}
+use native.Mathlib.Omega.{arith}
+use mathlib.Core.Path.{_≡_, ap, _∙_}
+use mathlib.Core.Bool.{Bool, true, false}
+use mathlib.Core.List.{List, _++_}
+use lib.ListN.{length, getD, length-append}
+use Rattle.rules.specs.Collecting.{Content, Shown, meets}
+use Rattle.table.specs.declared.Table.{Table}
+use Rattle.table.specs.Stored.{storeTable, past}
+use Rattle.text.specs.Lines.{shownAs}
+use Rattle.text.specs.Sets.{setsFrom, setsIn}
+use Rattle.text.proofs.SetLaws.{sets-next, sets-stored}
+use Rattle.columns.specs.Columns.{rowsOf, rowsText, ruleText, headingText, setsText, columns}
+
+-- the set that stands at a place
+abbrev pub shownAt : Table → ℕ → Shown
+shownAt t i = shownAs (getD (t .keys) i 0) (getD (t .on) i false) (getD (t .shown) i past)
+
+pub text-next : (csv : Bool) (t : Table) (i n : ℕ) → i < n → (getD (t .shown) i past .len ≡ 0 → ⊥)
+    → setsText csv (setsFrom t i (n - i)) ≡ rowsText csv (rowsOf (shownAt t i)) ++ ruleText csv ++ setsText csv (setsFrom t (i + 1) (n - (i + 1)))
+unfolding setsText
+text-next csv t i n h z = ap (setsText csv) (sets-next t i n h z)
+
+module _ (csv : Bool) (t : Table) (c : Content) (m : meets c ≡ true) (e : t ≡ storeTable c) where
+  pub columns-of : headingText csv ++ ruleText csv ++ setsText csv (setsIn t) ≡ columns csv c
+  unfolding columns
+  columns-of = ap (λ (ss : List Shown). headingText csv ++ ruleText csv ++ setsText csv ss) (ap setsIn e ∙ sets-stored c m)
+
+  pub columns-size : {heading sets : ℕ} → heading ≡ length (headingText csv ++ ruleText csv) → sets ≡ length (setsText csv (setsIn t))
+      → heading + sets ≡ length (columns csv c)
+  columns-size h s = omega (arith, h, s, length-append (headingText csv ++ ruleText csv) (setsText csv (setsIn t)), ap length columns-of)

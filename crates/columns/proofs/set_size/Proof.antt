@@ -1,0 +1,69 @@
+-- `columns::set_size` meets its contract: the parts' sizes are their lengths.
+use Prim.Native.Nat.{ℕ, _+_, _*_}
+use native.Mathlib.Omega.{arith}
+use mathlib.Core.Path.{_≡_, ap, _∙_}
+use mathlib.Core.Bool.{cond}
+use lib.ListN.{length}
+use Rattle.rules.specs.Collecting.{keyWidth}
+use Rattle.rules.specs.Listing.{stateText}
+use Rattle.lists.specs.Stored.{pairsIn}
+use Rattle.lists.proofs.Pairs.{length-pairs-in}
+use Rattle.text.specs.Lines.{shownAs}
+use Rattle.columns.proofs.Lines.{length-set}
+use borrow.Author.Needs.{needs}
+use Rattle.columns.proofs.set_size.Statement.{statement}
+use Rattle.columns.proofs.set_size.Tie as tie
+
+least-requires : tie.Need-least-requires
+least-requires c κs = tt
+
+codes-size-requires : tie.Need-codes-size-requires
+codes-size-requires c κs = search needs
+
+dead-size-requires : tie.Need-dead-size-requires
+dead-size-requires c κs = tt
+
+dead-size-requires-2 : tie.Need-dead-size-requires-2
+dead-size-requires-2 c κs = tt
+
+add-result : tie.Need-add-result
+add-result c = search needs
+
+add-result-2 : tie.Need-add-result-2
+add-result-2 c = search needs
+
+rule-size-requires : tie.Need-rule-size-requires
+rule-size-requires c κs = tt
+
+add-result-3 : tie.Need-add-result-3
+add-result-3 c = search needs
+
+returns : tie.Need-returns
+unfolding shownAs
+returns c =
+    let a = c .before .before .before .before .before .before .before .args in
+    let l = a .list in
+    let ns : length (l .numbers) ≡ 128 = search needs in
+    let ks : length (l .kinds) ≡ 128 = search needs in
+    let n : c .before .before .before .before .least .result ≡ length (pairsIn (l .kinds) (l .numbers) (l .len)) = omega (arith, c .before .before .before .before .least .ensures, length-pairs-in (l .kinds) (l .numbers) (l .len)) in
+    let size =
+    length-set (a .csv) (shownAs (a .key) (a .on) l)
+    (c .before .before .before .codes-size .ensures .0 ∙ ap (λ (k : ℕ). k * cond (a .csv) (13 + length (stateText (a .on)) + 2 * keyWidth (a .key)) 49) n)
+    (c .before .before .dead-size .ensures .0)
+    (c .before .dead-size2 .ensures .0)
+    (c .rule-size .ensures .0) in
+    (size, omega (arith, c .before .before .before .codes-size .ensures .1, c .before .before .dead-size .ensures .1, c .before .dead-size2 .ensures .1, c .rule-size .ensures .1))
+
+pub set-size-spec : {M : Type 1} → statement M
+set-size-spec =
+    tie.close
+    (tie.spec
+    least-requires
+    codes-size-requires
+    dead-size-requires
+    dead-size-requires-2
+    add-result
+    add-result-2
+    rule-size-requires
+    add-result-3
+    returns)
