@@ -21,6 +21,7 @@ from material import (DAB, DRM, FLAGS, RDS, faulty_block, largest_sheet, long_sh
 from scenes import EXAMPLE
 from script import Script
 from second.columns import csv_text, table_text
+from second.figs import figs_text
 from second.listing import listing, table_of
 
 HERE = os.path.dirname(os.path.abspath(__file__))
@@ -361,6 +362,7 @@ def all_files():
         files["listing/" + name + ".fib"] = recording
         files["listing/" + name + ".txt"] = "".join(line + "\n" for line in listing(recording)).encode("ascii")
         files["listing/" + name + ".table"] = table_text(table_of(recording)).encode("ascii")
+        files["listing/" + name + ".figs"] = figs_text(recording).encode("ascii")
         files["listing/" + name + ".csv"] = csv_text(table_of(recording)).encode("ascii")
     return files, {name: script.seen for name, script in scripts.items()}
 
