@@ -1,5 +1,6 @@
 -- The starred examples 1 to 12 of document 01, both halves of 10, as one table: blocks with their check bytes, as the second
 -- program under tests/ makes them, and what reading them into the empty table answers and leaves. One statement, computed.
+-- Then the sheet and the listing of examples 15 and 16.
 use Prim.Native.Nat.{ℕ}
 use mathlib.Core.Path.{_≡_, refl}
 use mathlib.Core.Bool.{Bool, true, false}
@@ -12,8 +13,11 @@ use Rattle.rules.specs.declared.Note.the-variants.{Opened, ShownAndOpene
 use Rattle.rules.specs.Block.{bits, bit, number, generator, shift, shifts, register, checkOf, checkHolds, after, walk, figAt, figs}
 use Rattle.rules.specs.Field.{isLinking, width, bigEndian, identifiers, shortField, listField, listBytes, fieldAt, fieldsOf, keyOf, pair, hasList, isContinuation, firstKind, startPairs, pairsOf, namedBy, wrongValue, emptyStart}
 use Rattle.rules.specs.Family.{member, added, addedAll, opening, extended, entryWith, started, continued, onHeld, fresh, onUnheld, kept, effect, find, replace, insert, store, step, steps, closed, dropOpen}
-use Rattle.rules.specs.Collecting.{samePair, joinNames, IdSet, Content, brings, actOf, said}
+use Rattle.rules.specs.Collecting.{samePair, joinNames, IdSet, Content, brings, actOf, said, keyWidth, showing, shownSets}
 use Rattle.rules.specs.Outcomes.{Answer, joined, allFields, some?, judgeFields, judgeFigs, verdict, answerTo, readBlock}
+use Rattle.rules.specs.Air.{hasKind}
+use Rattle.rules.specs.Sheet.{groups, sheetNumber, sheetPairs, sheetSet, sheetSets, sheet}
+use Rattle.rules.specs.Listing.{hexDigit, hexText, decimalTo, decimal, kindLetter, pairText, pairsText, deadText, stateText, idsText, lineOf, linesOf, tailText, listing}
 
 -- an example: blocks, read one after the other into the empty table, and the answer to the last of them
 pub record Example : Type 0 where
@@ -86,3 +90,19 @@ examples =
 pub examples-hold : map given examples ≡ map expected examples
 unfolding examples given expected lastAnswer bits bit number generator shift shifts register checkOf checkHolds after walk figAt figs isLinking width bigEndian identifiers shortField listField listBytes fieldAt fieldsOf keyOf pair hasList isContinuation firstKind startPairs pairsOf namedBy wrongValue emptyStart member added addedAll opening extended entryWith started continued onHeld fresh onUnheld kept effect find replace insert store step steps closed dropOpen samePair joinNames brings actOf said joined allFields some? judgeFields judgeFigs verdict answerTo readBlock mathlib.Core.Bool.xor mathlib.Core.List.zipWith
 examples-hold = refl
+
+-- ---- examples 15 and 16: what is written of the table that example 2 leaves
+
+pub sheet-holds : sheet (E true (some two) (some two)) ≡ 0x01 ∷ 0x84 ∷ 0x40 ∷ 0x01 ∷ 0x01 ∷ 0x02 ∷ 0x00 ∷ 0xB1 ∷ 0x89 ∷ 0x01 ∷ 0x01 ∷ 0xB1 ∷ 0x89 ∷ 0x01 ∷ []
+unfolding sheet sheetSets sheetSet sheetPairs sheetNumber groups bit shownSets showing pair
+sheet-holds = refl
+
+-- `sets 1` and `2004 on ids 2 D44B1 R44B1`
+pub listing-holds : listing (E true (some two) (some two)) 0 ≡ 115 ∷ 101 ∷ 116 ∷ 115 ∷ 32 ∷ 49 ∷ 10 ∷ 50 ∷ 48 ∷ 48 ∷ 52 ∷ 32 ∷ 111 ∷ 110 ∷ 32 ∷ 105 ∷ 100 ∷ 115 ∷ 32 ∷ 50 ∷ 32 ∷ 68 ∷ 52 ∷ 52 ∷ 66 ∷ 49 ∷ 32 ∷ 82 ∷ 52 ∷ 52 ∷ 66 ∷ 49 ∷ 10 ∷ []
+unfolding listing linesOf lineOf pairsText pairText deadText stateText idsText tailText kindLetter hexText hexDigit decimal decimalTo hasKind keyWidth width shownSets showing pair
+listing-holds = refl
+
+-- a number of three digits
+pub decimal-holds : decimal 128 ≡ 49 ∷ 50 ∷ 56 ∷ []
+unfolding decimal decimalTo
+decimal-holds = refl

@@ -1,0 +1,96 @@
+"""Checks docs/STATEMENTS.md against the source.
+
+    python3 tests/check_statements.py
+
+Its table of public functions has a row for every `pub fn` of the libraries; each names at least two wrong programs whose edits change code
+and one whose edit changes a definition, or says why there is none; and every edit that there is stands in that table or in
+the one of document 01's wrong programs. Every old text of an edit stands exactly once where it says. Exit status 1 otherwise.
+"""
+
+import re
+import sys
+from pathlib import Path
+
+sys.dont_write_bytecode = True
+
+ROOT = Path(__file__).resolve().parent.parent
+OUTSIDE = {"console"}  # what a program reads and writes has no statement: docs/DECISIONS.md
+
+
+def libraries():
+    return sorted(path.parent.parent for path in ROOT.glob("crates/*/src/lib.rt") if path.parent.parent.name not in OUTSIDE)
+
+
+def public_functions():
+    """(crate, function) of every `pub fn`, with its type in front."""
+    for crate in libraries():
+        owner = ""
+        for line in (crate / "src/lib.rt").read_text().splitlines():
+            block = re.match(r"impl(?:<'a>)? (\w+)", line)
+            if block or line == "}":
+                owner = block.group(1) + "::" if block else ""
+            function = re.match(r"\s*pub fn (\w+)", line)
+            if function:
+                yield crate.name, owner + function.group(1)
+
+
+def edits():
+    """(crate, name): the kinds of files that the edit changes, and whether its old texts stand once each."""
+    found = {}
+    for path in sorted(ROOT.glob("crates/*/must-fail/*.edit")) + sorted(ROOT.glob("tests/wrong/*/*.edit")):
+        crate = path.parent.parent.name if path.parent.name == "must-fail" else path.parent.name
+        kinds, texts, once, at, old = set(), {}, True, None, None
+        for line in path.read_text().splitlines():
+            if line.startswith("file: "):
+                at = line[6:].strip()
+                kinds.add(at.split("/")[0])
+                texts.setdefault(at, (ROOT / "crates" / crate / at).read_text())
+            elif line.startswith("old: "):
+                old = line[5:]
+                once = once and texts[at].count(old) == 1
+            elif line.startswith("new:"):
+                texts[at] = texts[at].replace(old, line[5:])
+        found[crate, path.stem] = kinds, once
+    return found
+
+
+def named(cell, crate):
+    """The edits that a cell names: `name`, or `crate: name` for one of another crate."""
+    for owner, name in [] if cell.startswith("none: ") else re.findall(r"(?:(\w+): )?`(\w+)`", cell):
+        yield owner or crate, name
+
+
+def rows(text, heading):
+    part = text.split("\n## " + heading + "\n")[1].split("\n## ")[0]
+    return [[cell.strip() for cell in line.strip("|").split("|")] for line in part.splitlines() if line.startswith("| ")][1:]
+
+
+def main():
+    text = (ROOT / "docs/STATEMENTS.md").read_text()
+    known, wrong, used = edits(), [], set()
+    wrong += ["%s: %s: an old text does not stand once" % key for key, (_, once) in known.items() if not once]
+    listed = {}
+    for function, cites, code, definition in rows(text, "Public functions"):
+        crate, name = re.match(r"(\w+): `([\w:]+)`", function).groups()
+        listed[crate, name] = True
+        for cell, kind, least in ((code, "src", 2), (definition, "specs", 1)):
+            names = list(named(cell, crate))
+            used.update(names)
+            wrong += ["%s: %s: no edit %s: %s" % (crate, name, *key) for key in names if key not in known]
+            good = [key for key in names if key in known and kind in known[key][0]]
+            if len(good) < least and not cell.startswith("none: "):
+                wrong.append("%s: %s names %d edits of %s" % (crate, name, len(good), kind))
+    for _, where in rows(text, "Wrong programs that document 01 lists"):
+        used.update(named(where, ""))
+    wrong += ["%s: %s: not listed" % key for key in public_functions() if key not in listed]
+    wrong += ["%s: %s: listed, and not there" % key for key in listed if key not in set(public_functions())]
+    wrong += ["%s: %s: an edit that STATEMENTS.md does not name" % key for key in known if key not in used and key[0] not in OUTSIDE]
+    for line in wrong:
+        print("FAILED  " + line)
+    if not wrong:
+        print("ok      docs/STATEMENTS.md: %d public functions, %d wrong programs" % (len(listed), len(known)))
+    sys.exit(1 if wrong else 0)
+
+
+if __name__ == "__main__":
+    main()
