@@ -22,7 +22,7 @@ HEAD = """# Example recordings
 
 Each file is a row of whole blocks of 32 bytes. To list one:
 
-    python3 tests/second/listing.py < examples/swiss-4001-common.fib
+    bin/linkage list examples/swiss-4001-common.fib
 
 They are made by `python3 tests/make_examples.py`, and `python3 tests/check_vectors.py` makes them again and compares.
 Documents 000 and 003 are ETSI TS 103 176 and the SRG SSR paper on service linking.
