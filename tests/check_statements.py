@@ -4,7 +4,8 @@
 
 Its table of public functions has a row for every `pub fn` of the libraries; each names at least two wrong programs whose edits change code
 and one whose edit changes a definition, or says why there is none; and every edit that there is stands in that table or in
-the one of document 01's wrong programs. Every old text of an edit stands exactly once where it says. Exit status 1 otherwise.
+the one of document 01's wrong programs. Every old text of an edit stands exactly once where it says, and every statement that is copied
+stands so in the source. Exit status 1 otherwise.
 """
 
 import re
@@ -65,6 +66,12 @@ def rows(text, heading):
     return [[cell.strip() for cell in line.strip("|").split("|")] for line in part.splitlines() if line.startswith("| ")][1:]
 
 
+def quotes(text):
+    """(file, lines) of each part of the source that is copied into the text: a path alone, and indented lines after it."""
+    for path, part in re.findall(r"^`(crates/[^`]+)`:\n\n((?:    .*\n|\n(?=    ))+)", text, re.M):
+        yield path, re.sub(r"^    ", "", part.strip("\n"), flags=re.M)
+
+
 def main():
     text = (ROOT / "docs/STATEMENTS.md").read_text()
     known, wrong, used = edits(), [], set()
@@ -85,10 +92,12 @@ def main():
     wrong += ["%s: %s: not listed" % key for key in public_functions() if key not in listed]
     wrong += ["%s: %s: listed, and not there" % key for key in listed if key not in set(public_functions())]
     wrong += ["%s: %s: an edit that STATEMENTS.md does not name" % key for key in known if key not in used and key[0] not in OUTSIDE]
+    copied = list(quotes(text))
+    wrong += ["%s: not there as copied: %s" % (path, part.splitlines()[0]) for path, part in copied if part not in (ROOT / path).read_text()]
     for line in wrong:
         print("FAILED  " + line)
     if not wrong:
-        print("ok      docs/STATEMENTS.md: %d public functions, %d wrong programs" % (len(listed), len(known)))
+        print("ok      docs/STATEMENTS.md: %d public functions, %d wrong programs, %d statements copied" % (len(listed), len(known), len(copied)))
     sys.exit(1 if wrong else 0)
 
 
