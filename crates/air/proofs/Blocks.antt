@@ -11,10 +11,8 @@ use lib.Pow.{pow-add}
 use lib.Dec.{eqb}
 use lib.Seq.{slice, length-slice, take-append-add, sets-eq}
 use Rattle.rules.specs.Block.{bit, checkOf}
-use Rattle.rules.specs.Field.{width}
 use Rattle.rules.specs.Collecting.{keyWidth}
 use Rattle.rules.specs.Air.{Piece, pieceMost, allBytes, fieldBytes, figBytes, blockOf}
-use Rattle.rules.proofs.Basics.{cases-bool}
 use Rattle.rules.proofs.AirBlock.{all-length, fig-length}
 use Rattle.out.specs.Put.{Puts}
 use Rattle.out.proofs.Runs.{puts-length, puts-then}
@@ -27,13 +25,6 @@ pub eight-bits : (k : ℕ) → 2 ^ (8 * k) ≡ 256 ^ k
 eight-bits zero = refl
 eight-bits (suc k) =
     ap (λ (m : ℕ). 2 ^ m) (mul-suc 8 k) ∙ pow-add 2 (8 * k) 8 ∙ ap (λ (m : ℕ). m * 256) (eight-bits k) ∙ sym (pow-suc 256 k)
-
-pub width-small : (key : ℕ) → keyWidth key ≤ 4
-unfolding keyWidth width
-width-small key =
-    cases-bool (eqb (key / 16384 % 2) 1)
-    (λ e. rw e (omega arith))
-    (λ e. cases-bool (eqb (key / 4096 % 2) 1) (λ f. rw (e, f) (omega arith)) (λ f. rw (e, f) (omega arith)))
 
 -- the identifiers of a piece have 24 bytes at most
 pub few-bytes : (key n : ℕ) → n ≤ pieceMost (keyWidth key) → n * keyWidth key ≤ 24

@@ -1,30 +1,32 @@
--- The whole output (document 01, Writing for air). In order: the blocks of pieces one after another, and their length; the sets
--- that stand in a table's arrays, from a place on; that those of a stored table are the sets that its content shows; the answer.
-use Prim.Native.Nat.{ℕ, zero, suc, _+_, _-_, _*_, _/_, _%_, _<_, _≤_}
-use native.Mathlib.Numerals.{add-one}
+-- The whole output (document 01, Writing for air). In order: the blocks of pieces one after another, and their length; the blocks
+-- of a table's sets from a place on; that those of a stored table are what its content shows; the answer.
+use Prim.Native.Nat.{ℕ, _+_, _-_, _*_, _/_, _%_, _<_, _≤_, min}
 use native.Mathlib.Omega.{arith}
 use mathlib.Core.Path.{_≡_, refl, sym, ap, _∙_}
-use mathlib.Core.Bool.{Bool, false}
-use mathlib.Core.List.{List, [], _∷_, _++_, map, append-assoc}
-use mathlib.Core.Option.{Option, none, some}
-use lib.ListN.{length, getD, length-append}
+use mathlib.Core.Bool.{Bool, true}
+use mathlib.Core.List.{List, [], _∷_, _++_, append-assoc}
+use lib.ListN.{length, getD, take, length-append}
 use lib.Dec.{eqb}
+use borrow.Author.Tests.{eqb-true, eqb-false}
 use Rattle.rules.specs.declared.Outcome.the-variants.{Done, ShortBuffer, WrongTable}
 use Rattle.rules.specs.Field.{Pair}
-use Rattle.rules.specs.Collecting.{IdSet, Held, Content, Shown, showing, shownSets, keyWidth}
+use Rattle.rules.specs.Collecting.{IdSet, Content, meets, keyWidth}
 use Rattle.rules.specs.Air.{Piece, pieceMost, cut, deadLink, pieces, figBytes, blockOf, blocksOf, setBlocks, allBlocks, air, writtenTo}
+use Rattle.rules.proofs.Basics.{cases-bool}
 use Rattle.rules.proofs.AirBlock.{block-length}
 use Rattle.lists.specs.declared.IdList.{IdList}
-use Rattle.lists.specs.Stored.{padded, pairsIn, emptyList, storeList, storeMaybe}
-use Rattle.lists.proofs.StoredLaws.{pairs-in-store}
-use Rattle.table.specs.Stored.{keyIn, onIn, shownIn, storeTable, past, Stored, Given, stored, notStored}
+use Rattle.lists.specs.Stored.{paired, pairsIn, Holds}
+use Rattle.lists.proofs.StoredLaws.{holds-facts}
 use Rattle.table.specs.declared.Table.{Table}
+use Rattle.table.specs.Stored.{storeTable, past, Stored, Given, stored, notStored}
+use Rattle.table.specs.Shown.{setIn, shownAs, setsFrom, setsIn}
+use Rattle.table.proofs.TableLaws.{meets-facts}
+use Rattle.table.proofs.ShownLaws.{shownAt, sets-skip, sets-next, sets-end, sets-stored}
 use Rattle.out.specs.declared.Written.{Written}
 use Rattle.out.specs.Put.{Puts}
 use Rattle.out.specs.Answer.{writtenAs}
 use Rattle.out.proofs.Runs.{puts-as}
 use Rattle.out.proofs.Answers.{written-short, written-done}
-use Rattle.air.specs.Parts.{setIn, shownBy, setsFrom}
 
 -- ---- blocks
 
@@ -39,8 +41,8 @@ blocks-length k on [] = refl
 blocks-length k on (c ∷ cs) =
     omega (arith, length-append (blockOf (figBytes k on c)) (blocksOf k on cs), block-length (figBytes k on c), blocks-length k on cs)
 
-pub set-size : (k : ℕ) (on : Bool) (l : IdList) → length (setBlocks (shownBy k on l)) ≡ 32 * length (pieces (pieceMost (keyWidth k)) (setIn l))
-unfolding setBlocks shownBy
+pub set-size : (k : ℕ) (on : Bool) (l : IdList) → length (setBlocks (shownAs k on l)) ≡ 32 * length (pieces (pieceMost (keyWidth k)) (setIn l))
+unfolding setBlocks shownAs
 set-size k on l = blocks-length k on (pieces (pieceMost (keyWidth k)) (setIn l))
 
 -- the identifiers' pieces, and the dead links
@@ -48,8 +50,8 @@ pub set-made : (k : ℕ) (on : Bool) (l : IdList)
     → blocksOf k on (cut (pieceMost (keyWidth k)) (setIn l .items))
     ++ blocksOf k on (deadLink 1 (eqb (l .named % 2) 1) (setIn l .items))
     ++ blocksOf k on (deadLink 3 (eqb (l .named / 2) 1) (setIn l .items))
-    ≡ setBlocks (shownBy k on l)
-unfolding setBlocks shownBy pieces setIn
+    ≡ setBlocks (shownAs k on l)
+unfolding setBlocks shownAs pieces setIn
 set-made k on l =
     let ps : List Pair = setIn l .items in
     let a : List Piece = cut (pieceMost (keyWidth k)) ps in
@@ -57,71 +59,45 @@ set-made k on l =
     let d : List Piece = deadLink 3 (eqb (l .named / 2) 1) ps in
     sym (blocks-append k on (a ++ r) d ∙ ap (λ (bs : List ℕ). bs ++ blocksOf k on d) (blocks-append k on a r))
 
--- ---- the sets in a table's arrays
+-- ---- the sets of a table, where `n` is the number of entries
 
-module _ (keys : List ℕ) (on : List Bool) (shown : List IdList) (i count : ℕ) where
-  pub sets-next : i < count → setsFrom keys on shown i (count - i)
-      ≡ shownBy (getD keys i 0) (getD on i false) (getD shown i past) ∷ setsFrom keys on shown (i + 1) (count - (i + 1))
-  unfolding setsFrom
-  sets-next h =
-      let e : count - i ≡ suc (count - (i + 1)) = omega arith in
-      ap (setsFrom keys on shown i) e
+-- a list that is none holds no identifier and no name, and so has no blocks
+none-in : (l : IdList) → l .len ≡ 0 → l .named ≡ 0 → setIn l ≡ record { items = []; named = 0 }
+unfolding setIn pairsIn
+none-in l z u = λ i. record { items = take (z i) (paired (l .kinds) (l .numbers)); named = u i }
 
-  pub sets-end : count ≤ i → setsFrom keys on shown i (count - i) ≡ []
-  unfolding setsFrom
-  sets-end h =
-      let e : count - i ≡ 0 = omega arith in
-      ap (setsFrom keys on shown i) e
+none-blocks : (k : ℕ) (on : Bool) (l : IdList) → l .len ≡ 0 → l .named ≡ 0 → setBlocks (shownAs k on l) ≡ []
+unfolding setBlocks shownAs pieces cut deadLink blocksOf
+none-blocks k on l z u = ap (λ (s : IdSet). setBlocks (record { key = k; on = on; set = s })) (none-in l z u)
 
-  pub sets-all : setsFrom keys on shown 0 (count - 0) ≡ setsFrom keys on shown 0 count
-  sets-all =
-      let e : count - 0 ≡ count = omega arith in
-      ap (setsFrom keys on shown 0) e
+module _ (t : Table) (i n : ℕ) where
+  pub blocks-next : Holds (getD (t .keys) i 0) (getD (t .shown) i past) → i < n
+      → allBlocks (setsFrom t i (n - i)) ≡ setBlocks (shownAt t i) ++ allBlocks (setsFrom t (i + 1) (n - (i + 1)))
+  unfolding allBlocks
+  blocks-next holds h =
+      cases-bool (eqb (getD (t .shown) i past .len) 0)
+      (λ e.
+      let z = eqb-true _ _ e in
+      ap allBlocks (sets-skip t i n h z)
+      ∙ ap (λ (bs : List ℕ). bs ++ allBlocks (setsFrom t (i + 1) (n - (i + 1)))) (sym (none-blocks _ _ (getD (t .shown) i past) z (holds-facts _ _ holds .unnamed z))))
+      (λ e. ap allBlocks (sets-next t i n h (eqb-false _ _ e)))
 
--- ---- a stored table
+  pub blocks-end : n ≤ i → allBlocks (setsFrom t i (n - i)) ≡ []
+  unfolding allBlocks
+  blocks-end h = ap allBlocks (sets-end t i n h)
 
--- the sets from the second place on
-sets-shift : (k : ℕ) (ks : List ℕ) (o : Bool) (os : List Bool) (l : IdList) (ls : List IdList) (i n : ℕ)
-    → setsFrom (k ∷ ks) (o ∷ os) (l ∷ ls) (suc i) n ≡ setsFrom ks os ls i n
-unfolding setsFrom
-sets-shift k ks o os l ls i zero = refl
-sets-shift k ks o os l ls i (suc n) =
-    ap (λ (r : List Shown). shownBy (getD ks i 0) (getD os i false) (getD ls i past) ∷ r)
-    (rw (add-one i, add-one (suc i)) (sets-shift k ks o os l ls (suc i) n))
+-- from the first place on
+pub blocks-all : (t : Table) (n : ℕ) → allBlocks (setsFrom t 0 (n - 0)) ≡ allBlocks (setsFrom t 0 n)
+blocks-all t n =
+    let e : n - 0 ≡ n = omega arith in
+    ap (λ (k : ℕ). allBlocks (setsFrom t 0 k)) e
 
--- a list that is none has no blocks
-none-blocks : (k : ℕ) (on : Bool) → setBlocks (shownBy k on emptyList) ≡ []
-unfolding setBlocks shownBy setIn emptyList pairsIn pieces cut deadLink blocksOf
-none-blocks k on = refl
-
--- a stored set is the set
-set-stored : (l : IdSet) → setIn (storeList l) ≡ l
-unfolding setIn storeList
-set-stored l = λ i. record { items = pairs-in-store l i; named = l .named }
-
-list-blocks : (e : Held) (o : Option IdSet) (rest : List Shown) → setBlocks (shownBy (e .key) (e .state) (storeMaybe o)) ++ allBlocks rest ≡ allBlocks (showing e o rest)
-unfolding showing storeMaybe allBlocks shownBy
-list-blocks e none rest = ap (λ (bs : List ℕ). bs ++ allBlocks rest) (none-blocks (e .key) (e .state))
-list-blocks e (some l) rest = ap (λ (x : IdSet). setBlocks (record { key = e .key; on = e .state; set = x }) ++ allBlocks rest) (set-stored l)
-
-content-blocks : (c : Content) (ks : List ℕ) (os : List Bool) (ls : List IdList)
-    → allBlocks (setsFrom (map keyIn c ++ ks) (map onIn c ++ os) (map shownIn c ++ ls) 0 (length c)) ≡ allBlocks (shownSets c)
-unfolding setsFrom shownSets allBlocks keyIn onIn shownIn
-content-blocks [] ks os ls = refl
-content-blocks (e ∷ c) ks os ls =
-    ap (λ (r : List Shown). setBlocks (shownBy (e .key) (e .state) (storeMaybe (e .shown))) ++ allBlocks r)
-    (sets-shift (e .key) (map keyIn c ++ ks) (e .state) (map onIn c ++ os) (storeMaybe (e .shown)) (map shownIn c ++ ls) 0 (length c))
-    ∙ ap (λ (bs : List ℕ). setBlocks (shownBy (e .key) (e .state) (storeMaybe (e .shown))) ++ bs) (content-blocks c ks os ls)
-    ∙ list-blocks e (e .shown) (shownSets c)
-
--- what stands in the arrays of a stored table is what its content shows
-pub air-stored : (c : Content)
-    → allBlocks (setsFrom (storeTable c .keys) (storeTable c .on) (storeTable c .shown) 0 (storeTable c .count)) ≡ air c
-unfolding storeTable padded air
-air-stored c = content-blocks c _ _ _
-
-pub air-of : (t : Table) (c : Content) → t ≡ storeTable c → allBlocks (setsFrom (t .keys) (t .on) (t .shown) 0 (t .count)) ≡ air c
-air-of t c e = ap (λ (x : Table). allBlocks (setsFrom (x .keys) (x .on) (x .shown) 0 (x .count))) e ∙ air-stored c
+-- those of a stored table are what its content shows
+pub air-of : (t : Table) (c : Content) → meets c ≡ true → t ≡ storeTable c → allBlocks (setsFrom t 0 (t .count)) ≡ air c
+unfolding setsIn storeTable air
+air-of t c m e =
+    let k : t .count ≡ min (t .count) 32 = omega (arith, ap (λ (x : Table). x .count) e, meets-facts c m .short) in
+    ap (λ (n : ℕ). allBlocks (setsFrom t 0 n)) k ∙ ap allBlocks (ap setsIn e ∙ sets-stored c m)
 
 -- ---- the answer
 
@@ -137,14 +113,14 @@ unfolding writtenAs
 answer-wrong t old n = notStored n refl
 
 -- a buffer that is too short, and one that is not
-module _ (t : Table) (s : Stored t) (old : List ℕ) (n : ℕ) (count : 32 * n ≡ length (allBlocks (setsFrom (t .keys) (t .on) (t .shown) 0 (t .count)))) where
+module _ (t : Table) (s : Stored t) (old : List ℕ) (n : ℕ) (count : 32 * n ≡ length (allBlocks (setsFrom t 0 (t .count)))) where
   pub answer-short : length old < 32 * n → WritesAir t old (record { outcome = ShortBuffer; size = 0 }) old
   unfolding Stored
-  answer-short h = stored (s .0) (s .1) (s .2) (written-short (air (s .0)) old (omega (arith, ap length (air-of t (s .0) (s .2)))))
+  answer-short h = stored (s .0) (s .1) (s .2) (written-short (air (s .0)) old (omega (arith, ap length (air-of t (s .0) (s .1) (s .2)))))
 
-  pub answer-done : (new : List ℕ) (size : ℕ) → 32 * n ≤ length old → Puts old 0 (allBlocks (setsFrom (t .keys) (t .on) (t .shown) 0 (t .count))) new size
+  pub answer-done : (new : List ℕ) (size : ℕ) → 32 * n ≤ length old → Puts old 0 (allBlocks (setsFrom t 0 (t .count))) new size
       → WritesAir t old (record { outcome = Done; size = size }) new
   unfolding Stored
   answer-done new size h p =
-      let e = air-of t (s .0) (s .2) in
+      let e = air-of t (s .0) (s .1) (s .2) in
       stored (s .0) (s .1) (s .2) (written-done (omega (arith, ap length e)) (puts-as e p))

@@ -32,7 +32,7 @@ same-answer r s a b e = (λ i. record { outcome = e i .outcome; size = e i .size
 pub single-answer : (t : Table) (old : List ℕ) (r s : Written) (a b : List ℕ) → WritesAir t old r a → WritesAir t old s b → (r ≡ s) × (a ≡ b)
 unfolding Stored
 single-answer t old r s a b (stored c m e p) (stored d n f q) =
-    same-answer r s a b (p ∙ ap (λ (bytes : List ℕ). writtenTo bytes old) (sym (air-of t c e) ∙ air-of t d f) ∙ sym q)
+    same-answer r s a b (p ∙ ap (λ (bytes : List ℕ). writtenTo bytes old) (sym (air-of t c m e) ∙ air-of t d n f) ∙ sym q)
 single-answer t old r s a b (stored c m e p) (notStored n q) = absurd (n (c, m, e))
 single-answer t old r s a b (notStored n p) (stored d m f q) = absurd (n (d, m, f))
 single-answer t old r s a b (notStored n p) (notStored m q) = same-answer r s a b (p ∙ sym q)
@@ -105,17 +105,17 @@ always-enough t old r new w = enough-by t old r new (outcomes t old r new w)
 -- ---- what is written reads back
 
 -- the bytes that are written are the output of any content that the table stores
-bytes-by : (t : Table) (old : List ℕ) (r : Written) (new : List ℕ) → Outcomes t old r new → r .outcome ≡ Done → (d : Content) → t ≡ storeTable d
-    → take (r .size) new ≡ air d
-bytes-by t old r new (written c m e h o s b) k d f =
-    rw (s, b) (take-append-seam (air c) (drop (length (air c)) old)) ∙ sym (air-of t c e) ∙ air-of t d f
-bytes-by t old r new (tooShort c m e h o s b) k d f = let z : _≡_ {A = ℕ} 0 1 = cc in absurd (omega arith)
-bytes-by t old r new (noTable n o s b) k d f = let z : _≡_ {A = ℕ} 0 1 = cc in absurd (omega arith)
+bytes-by : (t : Table) (old : List ℕ) (r : Written) (new : List ℕ) → Outcomes t old r new → r .outcome ≡ Done → (d : Content) → meets d ≡ true
+    → t ≡ storeTable d → take (r .size) new ≡ air d
+bytes-by t old r new (written c m e h o s b) k d n f =
+    rw (s, b) (take-append-seam (air c) (drop (length (air c)) old)) ∙ sym (air-of t c m e) ∙ air-of t d n f
+bytes-by t old r new (tooShort c m e h o s b) k d w f = let z : _≡_ {A = ℕ} 0 1 = cc in absurd (omega arith)
+bytes-by t old r new (noTable n o s b) k d w f = let z : _≡_ {A = ℕ} 0 1 = cc in absurd (omega arith)
 
 module _ (t : Table) (old : List ℕ) (r : Written) (new : List ℕ) (w : WritesAir t old r new) (done : r .outcome ≡ Done)
     (c : Content) (m : meets c ≡ true) (e : t ≡ storeTable c) where
   bytes : take (r .size) new ≡ air c
-  bytes = bytes-by t old r new (outcomes t old r new w) done c e
+  bytes = bytes-by t old r new (outcomes t old r new w) done c m e
 
   -- read twice into an empty table, and as one recording of it twice over
   pub read-twice : shownSets (readRecording (readRecording [] (take (r .size) new)) (take (r .size) new)) ≡ shownSets c

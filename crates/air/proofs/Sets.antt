@@ -1,7 +1,6 @@
 -- The set that stands in a list's arrays. In order: its kinds and numbers; the pieces from a place on, by ranges of the arrays;
--- what a range of a list that meets the rules fits; the search for a kind; how many pieces there are; dead links.
+-- what a range of a list that meets the rules fits; how many pieces there are; dead links.
 use Prim.Native.Nat.{ℕ, zero, suc, _+_, _/_, _%_, _≤_, _<_}
-use native.Mathlib.Numerals.{add-one}
 use native.Mathlib.Omega.{arith}
 use mathlib.Core.Path.{_≡_, refl, sym, ap, _∙_, subst}
 use mathlib.Core.Bool.{Bool, true, false, not, _&&_}
@@ -9,7 +8,6 @@ use mathlib.Core.List.{List, [], _∷_, _++_, map}
 use lib.ListN.{length, getD, take, drop, length-take, length-append}
 use lib.Seq.{slice, slice-empty, take-take}
 use lib.Dec.{eqb}
-use borrow.Author.Tests.{eq-eqb, ne-eqb}
 use Rattle.rules.specs.Block.{bit}
 use Rattle.rules.specs.Field.{Pair, pair, rds, drm}
 use Rattle.rules.specs.Collecting.{IdSet, keyWidth}
@@ -19,10 +17,11 @@ use Rattle.rules.proofs.Basics.{cases-bool}
 use Rattle.rules.proofs.AirPieces.{most-room}
 use Rattle.lists.specs.declared.IdList.{IdList}
 use Rattle.lists.specs.Stored.{paired, pairsIn, Holds}
-use Rattle.lists.proofs.Pairs.{drop-pairs, drop-pairs-end, length-pairs-in}
+use Rattle.lists.proofs.Pairs.{length-pairs-in}
 use Rattle.lists.proofs.StoredLaws.{Facts, holds-facts}
+use Rattle.table.specs.Shown.{setIn}
 use Rattle.air.specs.declared.Part.{Part}
-use Rattle.air.specs.Parts.{setIn, partAt, pieceIn, Fitting}
+use Rattle.air.specs.Parts.{partAt, pieceIn, Fitting}
 use Rattle.air.proofs.Ranges.{left, left-next, left-end, range-ahead, range-inside, range-few, range-kind, kinds-small}
 
 kinds-of : (ks ns : List ℕ) (len : ℕ) → length ks ≡ length ns → map kindIn (pairsIn ks ns len) ≡ take len ks
@@ -125,26 +124,6 @@ part-fits key l nl kl holds from p h e =
       few = range-few m ks from (omega arith) in';
       kind = range-kind m ks from small;
     })
-
--- ---- the search for a kind
-
--- the identifiers from a place on answer for all of them
-abbrev pub Seeking : IdList → ℕ → ℕ → Type 0
-Seeking l k j = hasKind k (drop j (setIn l .items)) ≡ hasKind k (setIn l .items)
-
-module _ (l : IdList) (numbers-long : length (l .numbers) ≡ 128) (kinds-long : length (l .kinds) ≡ 128) (short : l .len ≤ 128) (k i : ℕ) where
-  pub kind-found : i < l .len → getD (l .kinds) i 0 ≡ k → Seeking l k i → hasKind k (setIn l .items) ≡ true
-  unfolding setIn hasKind pair
-  kind-found h e s = sym s ∙ ap (hasKind k) (drop-pairs (l .kinds) (l .numbers) (l .len) i (omega arith)) ∙ rw (eq-eqb (getD (l .kinds) i 0) k e)
-
-  pub kind-next : i < l .len → (getD (l .kinds) i 0 ≡ k → ⊥) → Seeking l k i → Seeking l k (i + 1)
-  unfolding setIn hasKind pair
-  kind-next h n s =
-      rw (add-one i) (sym (ap (hasKind k) (drop-pairs (l .kinds) (l .numbers) (l .len) i (omega arith)) ∙ rw (ne-eqb (getD (l .kinds) i 0) k n)) ∙ s)
-
-  pub kind-absent : l .len ≤ i → Seeking l k i → hasKind k (setIn l .items) ≡ false
-  unfolding setIn hasKind
-  kind-absent h s = sym s ∙ ap (hasKind k) (drop-pairs-end (l .kinds) (l .numbers) (l .len) i (omega arith))
 
 -- ---- how many pieces
 

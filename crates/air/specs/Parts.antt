@@ -1,23 +1,14 @@
--- How the writer for air goes through a table: the pieces of a set as ranges of its identifiers, and the sets that stand in a
--- table's arrays. That these are the pieces and the sets of the rules is proved in proofs/.
+-- How the writer for air goes through a set: its pieces as ranges of its identifiers. That these are the pieces of the rules is
+-- proved in proofs/.
 use Prim.Native.Nat.{ℕ, zero, suc, _+_, _≤_, _<_}
-use mathlib.Core.Bool.{Bool, false, not, cond}
+use mathlib.Core.Bool.{not, cond}
 use mathlib.Core.List.{List, [], _∷_}
 use lib.ListN.{getD}
 use lib.Seq.{slice}
 use lib.Dec.{eqb}
-use Rattle.rules.specs.Collecting.{IdSet, Shown, keyWidth}
+use Rattle.rules.specs.Collecting.{keyWidth}
 use Rattle.rules.specs.Air.{Piece, pieceMost}
-use Rattle.lists.specs.declared.IdList.{IdList}
-use Rattle.lists.specs.Stored.{pairsIn}
-use Rattle.table.specs.Stored.{past}
 use Rattle.air.specs.declared.Part.{Part}
-
--- ---- a set
-
--- the set whose identifiers stand in a list's arrays; where the list is none, it has no identifier and no name
-unfoldable pub setIn : IdList → IdSet
-setIn l = record { items = pairsIn (l .kinds) (l .numbers) (l .len); named = l .named }
 
 -- how many at the front are of a kind
 unfoldable pub run : ℕ → List ℕ → ℕ
@@ -50,14 +41,3 @@ pub record Fitting (key n : ℕ) (p : Part) : Type 0 where
   pub inside : p .to ≤ n
   pub few : p .to ≤ p .from + pieceMost (keyWidth key)
   pub kind : p .qualifier < 4
-
--- ---- a table
-
--- a list of a key, on or off, as a shown set
-unfoldable pub shownBy : ℕ → Bool → IdList → Shown
-shownBy key on l = record { key = key; on = on; set = setIn l }
-
--- the sets that stand in this many places of a table's arrays, from one on
-unfoldable pub setsFrom : List ℕ → List Bool → List IdList → ℕ → ℕ → List Shown
-setsFrom keys on shown i zero = []
-setsFrom keys on shown i (suc n) = shownBy (getD keys i 0) (getD on i false) (getD shown i past) ∷ setsFrom keys on shown (i + 1) n

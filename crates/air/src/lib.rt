@@ -2,21 +2,21 @@
 // buffer. Every function is proved, and write_air, the one that is `pub`, has no `requires`.
 // A set is cut by places: a piece is a range of the set's identifiers (specs/Parts.antt).
 ghost use mathlib.Core.Path.{_≡_};
-ghost use mathlib.Core.Bool.{Bool, not, _&&_};
-ghost use mathlib.Core.List.{List};
 ghost use Prim.Native.Nat.{_+_, _*_, _/_, _%_, _^_, _≤_, _<_};
 ghost use lib.ListN.{length, take};
 ghost use lib.Seq.{slice};
 ghost use Rattle.rules.specs.declared.Outcome.the-variants.{WrongTable};
 ghost use Rattle.rules.specs.Block.{bit};
 ghost use Rattle.rules.specs.Collecting.{keyWidth};
-ghost use Rattle.rules.specs.Air.{pieceMost, cut, hasKind, deadLink, pieces, bigBytes, allBytes, figBytes, blockOf, blocksOf, setBlocks, allBlocks, air, writtenTo};
+ghost use Rattle.rules.specs.Air.{pieceMost, cut, deadLink, pieces, bigBytes, allBytes, figBytes, blockOf, blocksOf, setBlocks, allBlocks, air, writtenTo};
 ghost use Rattle.lists.specs.Stored.{Holds};
 ghost use Rattle.table.specs.Stored.{EachHolds, Given};
+ghost use Rattle.table.specs.Shown.{setIn, shownAs, setsFrom};
 ghost use Rattle.out.specs.Put.{Puts};
 ghost use Rattle.out.specs.Answer.{writtenAs};
-ghost use Rattle.air.specs.Parts.{setIn, run, qualifierAt, partAt, pieceIn, Fitting, shownBy, setsFrom};
+ghost use Rattle.air.specs.Parts.{run, qualifierAt, partAt, pieceIn, Fitting};
 use lists::IdList;
+use lists::is_dead;
 use out::Written;
 use rules::Outcome;
 use table::Table;
@@ -112,34 +112,18 @@ fn cut_count(list: IdList, key: u32) -> usize
     n
 }
 
-// Whether a kind, which the list names or not, is a dead link: named, and no identifier has it.
-fn is_dead(list: IdList, kind: u8, named: bool) -> bool
-    requires { ⌜ list .len ≤ 128 ⌝ }
-    ensures { λ r. ⌜ r ≡ (named && not (hasKind kind (setIn list .items))) ⌝ }
-{
-    if !named {
-        return false;
-    }
-    let len = list.len;
-    let mut i: usize = 0;
-    while i < len {
-        if list.kinds[i] == kind {
-            return false;
-        }
-        i += 1;
-    }
-    true
-}
-
 // How many pieces a set is cut into.
 fn piece_count(list: IdList, key: u32) -> usize
     requires { ⌜ list .len ≤ 128 ⌝ }
     ensures { λ r. ⌜ (r ≡ length (pieces (pieceMost (keyWidth key)) (setIn list))) × (r ≤ 130) ⌝ }
 {
+    let len = list.len;
+    let rds = list.named % 2 == 1;
+    let drm = list.named / 2 == 1;
     let n = cut_count(list, key);
-    let rds = bit_of(is_dead(list, 1, list.named % 2 == 1));
-    let drm = bit_of(is_dead(list, 3, list.named / 2 == 1));
-    n + rds + drm
+    let r = bit_of(is_dead(1, rds, &list.numbers, &list.kinds, len));
+    let d = bit_of(is_dead(3, drm, &list.numbers, &list.kinds, len));
+    n + r + d
 }
 
 // ---- a piece as a block
@@ -262,10 +246,11 @@ fn put_dead(
     kind: u8,
     named: bool,
 ) -> usize
-    requires { ⌜ (list .len ≤ 128) × (kind < 4) ⌝ }
+    requires { ⌜ kind < 4 ⌝ }
     ensures { λ r. ⌜ Puts (now (out .entry)) at (blocksOf key on (deadLink kind named (setIn list .items))) (now (out .exit)) r ⌝ }
 {
-    if is_dead(list, kind, named) {
+    let len = list.len;
+    if is_dead(kind, named, &list.numbers, &list.kinds, len) {
         let part = Part {
             from: 1,
             to: 1,
@@ -280,7 +265,7 @@ fn put_dead(
 // The blocks of a set at a place, and the place after them: none where there is no set.
 fn put_set(out: &mut [u8], at: usize, key: u32, on: bool, list: IdList) -> usize
     requires { ⌜ Holds key list ⌝ }
-    ensures { λ r. ⌜ Puts (now (out .entry)) at (setBlocks (shownBy key on list)) (now (out .exit)) r ⌝ }
+    ensures { λ r. ⌜ Puts (now (out .entry)) at (setBlocks (shownAs key on list)) (now (out .exit)) r ⌝ }
 {
     let named = list.named;
     let p = put_cut(out, at, key, on, list);
@@ -291,36 +276,30 @@ fn put_set(out: &mut [u8], at: usize, key: u32, on: bool, list: IdList) -> usize
 // ---- a table
 
 // How many pieces the sets of a table's first entries are cut into.
-fn count_all(count: usize, keys: [u32; 32], shown: [IdList; 32]) -> usize
-    requires { ⌜ (count ≤ 32) × EachHolds keys shown ⌝ }
-    ensures { λ r. ⌜ ((on : List Bool) → 32 * r ≡ length (allBlocks (setsFrom keys on shown 0 count))) × (r ≤ 4160) ⌝ }
+fn count_all(count: usize, table: Table) -> usize
+    requires { ⌜ (count ≤ 32) × EachHolds (table .keys) (table .shown) ⌝ }
+    ensures { λ r. ⌜ (32 * r ≡ length (allBlocks (setsFrom table 0 count))) × (r ≤ 4160) ⌝ }
 {
     let mut n: usize = 0;
     let mut i: usize = 0;
     while i < count {
-        let list = shown[i];
-        n += piece_count(list, keys[i]);
+        let list = table.shown[i];
+        n += piece_count(list, table.keys[i]);
         i += 1;
     }
     n
 }
 
 // The blocks of these sets at the front of a buffer, and the place after them.
-fn put_all(
-    out: &mut [u8],
-    count: usize,
-    keys: [u32; 32],
-    on: [bool; 32],
-    shown: [IdList; 32],
-) -> usize
-    requires { ⌜ (count ≤ 32) × EachHolds keys shown ⌝ }
-    ensures { λ r. ⌜ Puts (now (out .entry)) 0 (allBlocks (setsFrom keys on shown 0 count)) (now (out .exit)) r ⌝ }
+fn put_all(out: &mut [u8], count: usize, table: Table) -> usize
+    requires { ⌜ (count ≤ 32) × EachHolds (table .keys) (table .shown) ⌝ }
+    ensures { λ r. ⌜ Puts (now (out .entry)) 0 (allBlocks (setsFrom table 0 count)) (now (out .exit)) r ⌝ }
 {
     let mut p: usize = 0;
     let mut i: usize = 0;
     while i < count {
-        let list = shown[i];
-        p = put_set(out, p, keys[i], on[i], list);
+        let set = table.shown[i];
+        p = put_set(out, p, table.keys[i], table.on[i], set);
         i += 1;
     }
     p
@@ -339,16 +318,13 @@ pub fn write_air(table: Table, out: &mut [u8]) -> Written
         };
     }
     let count = table.count;
-    let keys = table.keys;
-    let on = table.on;
-    let shown = table.shown;
-    if out.len() < 32 * count_all(count, keys, shown) {
+    if out.len() < 32 * count_all(count, table) {
         return Written {
             outcome: Outcome::ShortBuffer,
             size: 0,
         };
     }
-    let size = put_all(out, count, keys, on, shown);
+    let size = put_all(out, count, table);
     Written {
         outcome: Outcome::Done,
         size,

@@ -15,7 +15,7 @@ use Rattle.rules.specs.Air.{hasKind}
 use Rattle.rules.specs.Listing.{stateText}
 use Rattle.out.proofs.Runs.{decide}
 use Rattle.out.proofs.Digits.{length-hex}
-use Rattle.text.proofs.Texts.{width-most}
+use Rattle.rules.proofs.SheetLaws.{width-most}
 use Rattle.columns.specs.Columns.{Cell, blank, code, dead, Row, rowOf, codeRows, deadRows, rowsOf, filled, gap, lineText, codeText, cellText, rowText, rowsText, ruleText}
 
 -- ---- a cell that is filled up

@@ -15,7 +15,7 @@ use Rattle.rules.specs.Listing.{stateText}
 use Rattle.rules.proofs.Basics.{and-left, and-right}
 use Rattle.lists.proofs.StoredLaws.{set-facts}
 use Rattle.table.proofs.TableLaws.{meets-facts, entry-facts}
-use Rattle.text.proofs.Texts.{width-most}
+use Rattle.rules.proofs.SheetLaws.{width-most}
 use Rattle.columns.specs.Columns.{rowsOf, filled, gap, lineText, rowsText, ruleText, headingText, setsText, columns}
 use Rattle.columns.proofs.Lines.{narrow-state, length-set}
 

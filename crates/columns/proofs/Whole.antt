@@ -3,20 +3,15 @@
 use Prim.Native.Nat.{ℕ, _+_, _-_, _<_}
 use native.Mathlib.Omega.{arith}
 use mathlib.Core.Path.{_≡_, ap, _∙_}
-use mathlib.Core.Bool.{Bool, true, false}
+use mathlib.Core.Bool.{Bool, true}
 use mathlib.Core.List.{List, _++_}
 use lib.ListN.{length, getD, length-append}
 use Rattle.rules.specs.Collecting.{Content, Shown, meets}
 use Rattle.table.specs.declared.Table.{Table}
 use Rattle.table.specs.Stored.{storeTable, past}
-use Rattle.text.specs.Lines.{shownAs}
-use Rattle.text.specs.Sets.{setsFrom, setsIn}
-use Rattle.text.proofs.SetLaws.{sets-next, sets-stored}
+use Rattle.table.specs.Shown.{setsFrom, setsIn}
+use Rattle.table.proofs.ShownLaws.{shownAt, sets-next, sets-stored}
 use Rattle.columns.specs.Columns.{rowsOf, rowsText, ruleText, headingText, setsText, columns}
-
--- the set that stands at a place
-abbrev pub shownAt : Table → ℕ → Shown
-shownAt t i = shownAs (getD (t .keys) i 0) (getD (t .on) i false) (getD (t .shown) i past)
 
 pub text-next : (csv : Bool) (t : Table) (i n : ℕ) → i < n → (getD (t .shown) i past .len ≡ 0 → ⊥)
     → setsText csv (setsFrom t i (n - i)) ≡ rowsText csv (rowsOf (shownAt t i)) ++ ruleText csv ++ setsText csv (setsFrom t (i + 1) (n - (i + 1)))

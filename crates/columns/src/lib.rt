@@ -2,6 +2,7 @@
 // spreadsheet, else for eyes. A row has one code. Every function is proved; the one that is `pub` has
 // no `requires`, refuses a buffer that is too short, and else writes the text at its front.
 use lists::IdList;
+use lists::is_dead;
 use lists::least;
 use lists::width_of;
 use out::Written;
@@ -11,7 +12,6 @@ use out::put_bytes;
 use out::put_hex;
 use rules::Outcome;
 use table::Table;
-use text::is_dead;
 ghost use mathlib.Core.Path.{_≡_};
 ghost use mathlib.Core.Bool.{not, cond, _&&_};
 ghost use mathlib.Core.List.{[], _++_};
@@ -24,8 +24,7 @@ ghost use Rattle.lists.specs.Stored.{pairsIn};
 ghost use Rattle.out.specs.Put.{Puts};
 ghost use Rattle.out.specs.Answer.{writtenAs};
 ghost use Rattle.table.specs.Stored.{Given};
-ghost use Rattle.text.specs.Lines.{shownAs};
-ghost use Rattle.text.specs.Sets.{setsIn};
+ghost use Rattle.table.specs.Shown.{shownAs, setsIn};
 ghost use Rattle.columns.specs.Columns.{blank, rowOf, codeRows, deadRows, rowsOf, filled, gap, codeText, cellText, rowText, rowsText, ruleText, headingText, setsText, columns};
 ghost use Rattle.columns.specs.Cells.{cellOf};
 

@@ -1,3 +1,4 @@
 pub mod Pairs
+pub mod KindLaws
 pub mod StoredLaws
 pub mod GrownLaws

@@ -3,13 +3,14 @@
 // specs/Stored.antt; what a list may hold is ifThere of crate rules.
 
 ghost use mathlib.Core.Path.{_≡_};
-ghost use mathlib.Core.Bool.{Bool};
+ghost use mathlib.Core.Bool.{Bool, not, _&&_};
 ghost use lib.Dec.{ltb};
 ghost use Prim.Native.Nat.{_^_};
 ghost use Prim.Native.Nat.{min, max};
 ghost use lib.ListN.{length, drop};
 ghost use Rattle.rules.specs.Field.{pair, namedBy};
 ghost use Rattle.rules.specs.Family.{member};
+ghost use Rattle.rules.specs.Air.{hasKind};
 ghost use Rattle.rules.specs.Collecting.{linkage, joinNames, keyWidth, kindNamed, namesMeet, pairsMeet, allDiffer};
 ghost use Rattle.lists.specs.Grown.{withField};
 ghost use Rattle.lists.specs.Stored.{emptyList, pairsIn, allZero, Holds, Tested};
@@ -70,6 +71,32 @@ pub fn stands_in<'a>(
         i += 1;
     }
     false
+}
+
+// Whether a kind stands among these pairs.
+pub fn has_kind<'a>(kind: u8, numbers: &'a [u32], kinds: &'a [u8], len: usize) -> bool
+    ensures { λ r. ⌜ r ≡ hasKind kind (pairsIn (now (kinds .entry)) (now (numbers .entry)) len) ⌝ }
+{
+    let end = least(len, least(kinds.len(), numbers.len()));
+    let mut k = 0;
+    while k < end {
+        if kinds[k] == kind {
+            return true;
+        }
+        k += 1;
+    }
+    false
+}
+
+// Whether a kind, named or not, is a named kind without identifiers.
+pub fn is_dead<'a>(kind: u8, named: bool, numbers: &'a [u32], kinds: &'a [u8], len: usize) -> bool
+    ensures { λ r. ⌜ r ≡ (named && not (hasKind kind (pairsIn (now (kinds .entry)) (now (numbers .entry)) len))) ⌝ }
+{
+    if named {
+        !has_kind(kind, numbers, kinds, len)
+    } else {
+        false
+    }
 }
 
 // ---- the test of the table rules, for one list

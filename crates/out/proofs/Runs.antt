@@ -3,7 +3,7 @@
 use Prim.Native.Nat.{ℕ, suc, _+_, _≤_, min}
 use native.Mathlib.Nat.{add-zero}
 use native.Mathlib.Omega.{arith}
-use mathlib.Core.Path.{_≡_, refl, sym, ap, _∙_}
+use mathlib.Core.Path.{_≡_, refl, sym, ap, _∙_, subst}
 use mathlib.Core.Bool.{Bool, true, false}
 use mathlib.Core.List.{List, [], _∷_, _++_}
 use lib.ListN.{length, set, length-append}
@@ -92,6 +92,10 @@ module _ {l : List ℕ} {i : ℕ} {us m : List ℕ} {j : ℕ} {rest : List ℕ} 
             ∙ sets-cut vs (sets m j ws) (j + length ws) ∙ sets-append ws vs m j ∙ ap (sets m j) (sym e) ∙ g .whole;
         last = omega (arith, p .after, g .last, g .long, ap length e, length-append ws vs);
       }
+
+  -- where a branch left it
+  pub going-as : {m' rest' : List ℕ} {j' : ℕ} → m' ≡ m → j' ≡ j → rest ≡ rest' → Going l i us m j rest → Going l i us m' j' rest'
+  going-as p q r g = subst (λ (x : List ℕ × ℕ × List ℕ). Going l i us (x .0) (x .1) (x .2)) (λ k. (sym p k, sym q k, r k)) g
 
   -- nothing is left
   pub going-end : rest ≡ [] → Going l i us m j rest → Puts l i us m j

@@ -85,10 +85,10 @@ fn spoil_entries(table: Table, way: usize) -> Table {
 // Whether the list has an RDS code or a DRM or AMSS identifier.
 fn has_other(list: IdList) -> bool {
     let len = list.len;
-    if text::has_kind(1, &list.numbers, &list.kinds, len) {
+    if lists::has_kind(1, &list.numbers, &list.kinds, len) {
         return true;
     }
-    text::has_kind(3, &list.numbers, &list.kinds, len)
+    lists::has_kind(3, &list.numbers, &list.kinds, len)
 }
 
 // Whether a key's set, or open list in way 16, has what one of the ways 7 to 16 needs.

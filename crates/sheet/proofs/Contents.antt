@@ -12,11 +12,10 @@ use Rattle.rules.proofs.Basics.{and-left, and-right}
 use Rattle.rules.proofs.SheetBasics.{same-head, same-tail}
 use Rattle.lists.specs.declared.IdList.{IdList}
 use Rattle.lists.specs.Stored.{padded, emptyList, storeList, storeMaybe, pairsIn}
-use Rattle.lists.proofs.StoredLaws.{pairs-in-store, set-facts}
+use Rattle.lists.proofs.StoredLaws.{pairs-in-store, not-none, set-facts}
 use Rattle.table.specs.declared.Table.{Table}
 use Rattle.table.specs.Stored.{keyIn, onIn, shownIn, draftIn, storeTable}
 use Rattle.table.proofs.TableLaws.{meets-facts, entry-facts}
-use Rattle.sheet.proofs.Shown.{first-some}
 
 -- ---- an array
 
@@ -39,8 +38,8 @@ list-same l m e =
 maybe-same : (k j : ℕ) (o p : Option IdSet) → ifThere k o ≡ true → ifThere j p ≡ true → storeMaybe o ≡ storeMaybe p → o ≡ p
 unfolding storeMaybe storeList emptyList ifThere
 maybe-same k j none none f g e = refl
-maybe-same k j none (some m) f g e = absurd (first-some (m .items) (set-facts j m g .first) (sym (ap (λ (x : IdList). x .len) e)))
-maybe-same k j (some l) none f g e = absurd (first-some (l .items) (set-facts k l f .first) (ap (λ (x : IdList). x .len) e))
+maybe-same k j none (some m) f g e = absurd (not-none (m .items) (set-facts j m g .first) (sym (ap (λ (x : IdList). x .len) e)))
+maybe-same k j (some l) none f g e = absurd (not-none (l .items) (set-facts k l f .first) (ap (λ (x : IdList). x .len) e))
 maybe-same k j (some l) (some m) f g e = ap (λ (x : IdSet). some x) (list-same l m e)
 
 -- ---- entries

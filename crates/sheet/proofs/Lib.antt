@@ -1,7 +1,6 @@
--- The laws that the proofs of the functions lean on: writing (Groups, Shown, Writes), loading (Numbers, Tests, Heads, Stores,
+-- The laws that the proofs of the functions lean on: writing (Groups, Writes), loading (Numbers, Tests, Heads, Stores,
 -- Pairs, Sets, Loads), and what the two promise (Contents, Promises).
 pub mod Groups
-pub mod Shown
 pub mod Writes
 pub mod Numbers
 pub mod Tests

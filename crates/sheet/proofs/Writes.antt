@@ -1,10 +1,10 @@
 -- What the code has to write, by its parts and by their lengths. In order: the identifiers of a list from a place on; a set;
--- the sets of a table from a place on; the sheet.
-use Prim.Native.Nat.{ℕ, suc, _+_, _*_, _<_, _≤_}
+-- the sets of a table from a place on; the sheet of a stored table.
+use Prim.Native.Nat.{ℕ, _+_, _-_, _*_, _<_, _≤_}
 use native.Mathlib.Numerals.{add-one}
 use native.Mathlib.Omega.{arith}
 use mathlib.Core.Path.{_≡_, ap, _∙_}
-use mathlib.Core.Bool.{Bool, true, false}
+use mathlib.Core.Bool.{Bool, true}
 use mathlib.Core.List.{List, [], _∷_, _++_, append-assoc}
 use lib.ListN.{length, getD, drop, length-append}
 use Rattle.rules.specs.Block.{bit}
@@ -15,13 +15,15 @@ use Rattle.rules.proofs.SheetLaws.{table-rules, shown-few, shown-entries, sets-
 use Rattle.lists.specs.declared.IdList.{IdList}
 use Rattle.lists.specs.Stored.{pairsIn}
 use Rattle.lists.proofs.Pairs.{length-pairs-in, drop-pairs, drop-pairs-end}
+use Rattle.lists.proofs.StoredLaws.{holds-facts}
 use Rattle.table.specs.declared.Table.{Table}
-use Rattle.table.specs.Stored.{storeTable, past}
+use Rattle.table.specs.Stored.{storeTable, past, EachHolds, Stored}
+use Rattle.table.specs.Shown.{setIn, shownAs, setsFrom, setsIn}
+use Rattle.table.proofs.TableLaws.{stored-facts}
+use Rattle.table.proofs.ShownLaws.{shownAt, sets-next, sets-stored}
 use Rattle.out.specs.Put.{Puts}
 use Rattle.out.proofs.Runs.{puts-as, puts-then}
-use Rattle.sheet.specs.Writing.{shownAs}
 use Rattle.sheet.proofs.Groups.{number-short}
-use Rattle.sheet.proofs.Shown.{shown-skipped, shown-here, shown-end}
 
 -- ---- identifiers
 
@@ -69,53 +71,50 @@ module _ (list : IdList) (kinds-long : length (list .kinds) ≡ 128) (numbers-lo
   module _ (key : ℕ) (on : Bool) where
     pub size-set : length (sheetSet (shownAs key on list))
         ≡ length (sheetNumber key) + length (sheetNumber (bit on)) + length (sheetNumber (list .named)) + length (sheetNumber (list .len)) + length (sheetPairs (pairsOf list))
-    unfolding sheetSet shownAs
+    unfolding sheetSet shownAs setIn
     size-set = simp (length-append, pairs-many)
 
--- ---- the sets of a table
+-- ---- the sets of a table, where `n` is the number of its entries
 
-module _ (t : Table) (c : Content) (m : meets c ≡ true) (e : t ≡ storeTable c) (i : ℕ) where
-  -- the set at a place
-  abbrev pub setAt : Shown
-  setAt = shownAs (getD (t .keys) i 0) (getD (t .on) i false) (getD (t .shown) i past)
-
-  pub count-skipped : i < t .count → getD (t .shown) i past .len ≡ 0 → length (shownSets (drop i c)) ≡ length (shownSets (drop (i + 1) c))
-  count-skipped h z = ap length (shown-skipped t c m e i h z)
-
-  pub count-here : i < t .count → (getD (t .shown) i past .len ≡ 0 → ⊥) → length (shownSets (drop i c)) ≡ suc (length (shownSets (drop (i + 1) c)))
-  count-here h n = ap length (shown-here t c m e i h n)
-
-  pub sets-skipped : i < t .count → getD (t .shown) i past .len ≡ 0 → sheetSets (shownSets (drop i c)) ≡ sheetSets (shownSets (drop (i + 1) c))
-  sets-skipped h z = ap sheetSets (shown-skipped t c m e i h z)
-
-  pub sets-here : i < t .count → (getD (t .shown) i past .len ≡ 0 → ⊥)
-      → sheetSets (shownSets (drop i c)) ≡ sheetSet setAt ++ sheetSets (shownSets (drop (i + 1) c))
+module _ (t : Table) (i n : ℕ) where
+  pub sets-here : i < n → (getD (t .shown) i past .len ≡ 0 → ⊥)
+      → sheetSets (setsFrom t i (n - i)) ≡ sheetSet (shownAt t i) ++ sheetSets (setsFrom t (i + 1) (n - (i + 1)))
   unfolding sheetSets
-  sets-here h n = ap sheetSets (shown-here t c m e i h n)
+  sets-here h z = ap sheetSets (sets-next t i n h z)
 
   -- by their lengths
-  pub size-sets : i < t .count → (getD (t .shown) i past .len ≡ 0 → ⊥)
-      → length (sheetSets (shownSets (drop i c))) ≡ length (sheetSet setAt) + length (sheetSets (shownSets (drop (i + 1) c)))
-  size-sets h n = ap length (sets-here h n) ∙ length-append (sheetSet setAt) (sheetSets (shownSets (drop (i + 1) c)))
+  pub size-sets : i < n → (getD (t .shown) i past .len ≡ 0 → ⊥)
+      → length (sheetSets (setsFrom t i (n - i))) ≡ length (sheetSet (shownAt t i)) + length (sheetSets (setsFrom t (i + 1) (n - (i + 1))))
+  size-sets h z = ap length (sets-here h z) ∙ length-append (sheetSet (shownAt t i)) (sheetSets (setsFrom t (i + 1) (n - (i + 1))))
 
-  pub sets-end : t .count ≤ i → sheetSets (shownSets (drop i c)) ≡ []
-  unfolding sheetSets
-  sets-end h = ap sheetSets (shown-end t c m e i h)
+-- ---- a stored table
 
--- they take few bytes
-pub sets-short : (c : Content) → meets c ≡ true → length (sheetSets (shownSets c)) ≤ 24800
-sets-short c m =
-    let r = table-rules c m in
-    omega (arith, r .few, shown-few c, sets-most (shownSets c) (shown-entries c (r .entries)))
+pub table-short : (t : Table) → Stored t → t .count ≤ 32
+table-short t s = stored-facts t s .short
 
--- ---- the sheet
+pub list-short : (t : Table) (i : ℕ) → Stored t → i < t .count → getD (t .shown) i past .len ≤ 128
+unfolding EachHolds
+list-short t i s h = holds-facts (getD (t .keys) i 0) _ (stored-facts t s .shown-hold i (omega (arith, table-short t s))) .short
 
-module _ (c : Content) {count : ℕ} (count-is : count ≡ length (shownSets c)) where
-  pub size-sheet : {n size : ℕ} → n ≡ length (sheetNumber count) → size ≡ length (sheetSets (shownSets c)) → n + size ≡ length (sheet c)
+-- its sets take few bytes
+pub sets-short : (t : Table) → Stored t → length (sheetSets (setsIn t)) ≤ 24800
+unfolding Stored
+sets-short t s =
+    let r = table-rules (s .0) (s .1) in
+    rw (ap setsIn (s .2) ∙ sets-stored (s .0) (s .1))
+    (omega (arith, r .few, shown-few (s .0), sets-most (shownSets (s .0)) (shown-entries (s .0) (r .entries))))
+
+-- its sheet, by the sets in its arrays
+module _ (t : Table) (c : Content) (m : meets c ≡ true) (e : t ≡ storeTable c) {count : ℕ} (count-is : count ≡ length (setsIn t)) where
+  sheet-of : sheetNumber count ++ sheetSets (setsIn t) ≡ sheet c
   unfolding sheet
-  size-sheet a b =
-      omega (arith, length-append (sheetNumber (length (shownSets c))) (sheetSets (shownSets c)), ap (λ (k : ℕ). length (sheetNumber k)) count-is)
+  sheet-of =
+      ap (λ (n : ℕ). sheetNumber n ++ sheetSets (setsIn t)) count-is
+      ∙ ap (λ (ss : List Shown). sheetNumber (length ss) ++ sheetSets ss) (ap setsIn e ∙ sets-stored c m)
 
-  pub puts-sheet : {l m n : List ℕ} {i p e : ℕ} → Puts l i (sheetNumber count) m p → Puts m p (sheetSets (shownSets c)) n e → Puts l i (sheet c) n e
-  unfolding sheet
-  puts-sheet a b = puts-then (puts-as (ap sheetNumber count-is) a) b
+  pub size-sheet : {n size : ℕ} → n ≡ length (sheetNumber count) → size ≡ length (sheetSets (setsIn t)) → n + size ≡ length (sheet c)
+  size-sheet a b = omega (arith, length-append (sheetNumber count) (sheetSets (setsIn t)), ap length sheet-of)
+
+  pub puts-sheet : {old mid new : List ℕ} {i p end : ℕ} → Puts old i (sheetNumber count) mid p → Puts mid p (sheetSets (setsIn t)) new end
+      → Puts old i (sheet c) new end
+  puts-sheet a b = puts-as sheet-of (puts-then a b)

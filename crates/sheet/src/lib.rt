@@ -10,13 +10,14 @@ ghost use lib.Dec.{eqb, leb, ltb};
 ghost use lib.ListN.{length};
 ghost use Rattle.rules.specs.Block.{bit};
 ghost use Rattle.rules.specs.Field.{dab};
-ghost use Rattle.rules.specs.Collecting.{keyWidth, kindNamed, namesMeet, shownSets};
+ghost use Rattle.rules.specs.Collecting.{keyWidth, kindNamed, namesMeet};
 ghost use Rattle.rules.specs.Sheet.{sheetNumber, sheetPairs, sheetSet, sheetSets};
 ghost use Rattle.rules.proofs.SheetParse.{readNumber, readIf, numberFits, readPair, readPairs, keyFits, countFits, readHead, readSet, readSets};
 ghost use Rattle.lists.specs.Stored.{pairsIn};
 ghost use Rattle.table.specs.Stored.{Stored};
+ghost use Rattle.table.specs.Shown.{shownAs, setsIn};
 ghost use Rattle.out.specs.Put.{Puts};
-ghost use Rattle.sheet.specs.Writing.{shownAs, OfStored, Writes};
+ghost use Rattle.sheet.specs.Writing.{Writes};
 ghost use Rattle.sheet.specs.Reading.{numberAs, pairRead, noList, listAs, headAs, noSet, setAs, noSets, setsAs};
 ghost use Rattle.sheet.specs.Loading.{notLoaded, Loads};
 use lists::IdList;
@@ -117,28 +118,10 @@ fn put_set(out: &mut [u8], at: usize, key: u32, on: bool, list: IdList) -> usize
     put_pairs(out, d, list)
 }
 
-// How many sets a table shows.
-fn shown_count(table: Table) -> u32
-    requires { ⌜ Stored table ⌝ }
-    ensures { λ r. ⌜ OfStored table (λ c. r ≡ length (shownSets c)) ⌝ }
-{
-    let count = table.count;
-    let mut n = 0u32;
-    let mut i = 0;
-    while i < count {
-        let list = table.shown[i];
-        if list.len != 0 {
-            n += 1;
-        }
-        i += 1;
-    }
-    n
-}
-
 // How many bytes the shown sets of a table take.
 fn sets_size(table: Table) -> usize
     requires { ⌜ Stored table ⌝ }
-    ensures { λ r. ⌜ OfStored table (λ c. r ≡ length (sheetSets (shownSets c))) ⌝ }
+    ensures { λ r. ⌜ r ≡ length (sheetSets (setsIn table)) ⌝ }
 {
     let count = table.count;
     let mut size = 0;
@@ -156,7 +139,7 @@ fn sets_size(table: Table) -> usize
 // The shown sets of a table at a place, and the place after them.
 fn put_sets(out: &mut [u8], at: usize, table: Table) -> usize
     requires { ⌜ Stored table ⌝ }
-    ensures { λ r. ⌜ OfStored table (λ c. Puts (now (out .entry)) at (sheetSets (shownSets c)) (now (out .exit)) r) ⌝ }
+    ensures { λ r. ⌜ Puts (now (out .entry)) at (sheetSets (setsIn table)) (now (out .exit)) r ⌝ }
 {
     let count = table.count;
     let mut p = cut_to(at, out.len());
@@ -183,7 +166,7 @@ pub fn write_sheet(table: Table, out: &mut [u8]) -> Written
             size: 0,
         };
     }
-    let count = shown_count(table);
+    let count = table.shown_count() as u32;
     let size = number_size(count) + sets_size(table);
     if out.len() < size {
         return Written {

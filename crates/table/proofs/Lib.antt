@@ -5,3 +5,4 @@ pub mod Entries
 pub mod GivenLaws
 pub mod Copies
 pub mod CopyOut
+pub mod ShownLaws

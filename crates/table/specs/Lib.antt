@@ -1,3 +1,4 @@
 pub mod Stored
 pub mod Places
 pub mod Answers
+pub mod Shown

@@ -1,5 +1,5 @@
 // The table of linkage sets as it is stored (document 01, Collecting): its limits, its empty table, the
-// test of the table rules, finding, opening and forgetting a key, copying a set out.
+// test of the table rules, finding, opening and forgetting a key, copying a set out, counting the sets.
 // Every function is proved and none that is `pub` has a `requires`. The stored form is storeTable of
 // specs/Stored.antt; what a content may hold is `meets` of crate rules.
 
@@ -15,6 +15,7 @@ ghost use Rattle.table.specs.Stored.{storeTable, EachHolds, NoneFrom, St
 ghost use Rattle.table.specs.Answers.{forgottenAs, copiedAs};
 ghost use Rattle.rules.specs.Outcomes.{copyOut, notCopied, overwritten};
 ghost use Rattle.table.specs.Places.{placeIn, keysMeet, allOff, opened, shut};
+ghost use Rattle.table.specs.Shown.{setsIn};
 use lists::IdList;
 use rules::Outcome;
 
@@ -419,5 +420,27 @@ pub fn copy_out(table: Table, key: u32, numbers: &mut [u32], kinds: &mut [u8]) -
         on: table.on[at],
         named: set.named,
         count: len,
+    }
+}
+
+// ---- counting
+
+impl Table {
+    // How many sets are shown: of all entries, of which there are 32 at most, those whose list is not
+    // empty.
+    pub fn shown_count(self) -> usize
+        ensures { λ r. ⌜ r ≡ length (setsIn self) ⌝ }
+    {
+        let end = lists::least(self.count, Self::KEYS);
+        let mut n = 0;
+        let mut k = 0;
+        while k < end {
+            let shown = self.shown[k];
+            if shown.len != 0 {
+                n += 1;
+            }
+            k += 1;
+        }
+        n
     }
 }

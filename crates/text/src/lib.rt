@@ -1,8 +1,9 @@
-// The listing's text (document 01, example 16), over lent bytes: the first line, the line of a set,
-// the tail, and the whole listing of a table. Every function is proved and none that is `pub` has a
-// `requires`. For each line there are its size, a writer at a place of a buffer, and a function that
-// refuses a buffer that is too short and else writes the line at its front; the whole goes likewise.
+// The listing's text (document 01, example 16), over a lent buffer: write_listing refuses a buffer that is
+// too short, and else writes the whole at its front. For each part of it there are its size and a writer
+// at a place. put_state and put_pairs are `pub` too, for a program that prints other lines of a table in
+// the same words. Every function is proved and none that is `pub` has a `requires`.
 use lists::IdList;
+use lists::is_dead;
 use lists::least;
 use lists::width_of;
 use out::Written;
@@ -15,25 +16,24 @@ use out::put_hex;
 use rules::Outcome;
 use table::Table;
 ghost use mathlib.Core.Path.{_≡_};
-ghost use mathlib.Core.Bool.{not, _&&_};
 ghost use mathlib.Core.List.{[], _∷_, _++_};
 ghost use Prim.Native.Nat.{_+_, _*_, _≤_};
 ghost use lib.ListN.{length};
 ghost use Rattle.rules.specs.Field.{pair};
 ghost use Rattle.rules.specs.Collecting.{keyWidth};
-ghost use Rattle.rules.specs.Air.{hasKind, writtenTo};
+ghost use Rattle.rules.specs.Air.{writtenTo};
 ghost use Rattle.rules.specs.Listing.{hexText, decimal, kindLetter, pairText, pairsText, deadText, stateText, idsText, lineOf, linesOf, tailText, listing};
 ghost use Rattle.lists.specs.Stored.{pairsIn};
 ghost use Rattle.out.specs.Put.{Puts};
 ghost use Rattle.out.specs.Answer.{writtenAs};
 ghost use Rattle.table.specs.Stored.{Given};
-ghost use Rattle.text.specs.Lines.{shownAs, setsText};
-ghost use Rattle.text.specs.Sets.{setsIn};
+ghost use Rattle.table.specs.Shown.{shownAs, setsIn};
+ghost use Rattle.text.specs.Lines.{setsText};
 
 // ---- the parts of a set's line
 
 // The letter of a kind: D, R, M.
-pub fn letter_of(kind: u8) -> u8
+fn letter_of(kind: u8) -> u8
     ensures { λ r. ⌜ r ≡ kindLetter kind ⌝ }
 {
     if kind == 0 {
@@ -45,34 +45,9 @@ pub fn letter_of(kind: u8) -> u8
     }
 }
 
-// Whether a kind stands among these pairs.
-pub fn has_kind<'a>(kind: u8, numbers: &'a [u32], kinds: &'a [u8], len: usize) -> bool
-    ensures { λ r. ⌜ r ≡ hasKind kind (pairsIn (now (kinds .entry)) (now (numbers .entry)) len) ⌝ }
-{
-    let end = least(len, least(kinds.len(), numbers.len()));
-    let mut i = 0;
-    while i < end {
-        if kinds[i] == kind {
-            return true;
-        }
-        i += 1;
-    }
-    false
-}
-
-// Whether a kind, named or not, is a named kind without identifiers.
-pub fn is_dead<'a>(kind: u8, named: bool, numbers: &'a [u32], kinds: &'a [u8], len: usize) -> bool
-    ensures { λ r. ⌜ r ≡ (named && not (hasKind kind (pairsIn (now (kinds .entry)) (now (numbers .entry)) len))) ⌝ }
-{
-    if named {
-        !has_kind(kind, numbers, kinds, len)
-    } else {
-        false
-    }
-}
-
-// The mark of such a kind at a place, ` R-` or ` M-`; nothing of another.
-pub fn put_mark<'a>(
+// The mark of a kind, named or not, at a place: ` R-` or ` M-` of a named kind without identifiers,
+// nothing of another.
+fn put_mark<'a>(
     out: &mut [u8],
     at: usize,
     kind: u8,
@@ -104,7 +79,7 @@ fn mark_size<'a>(kind: u8, named: bool, numbers: &'a [u32], kinds: &'a [u8], len
 }
 
 // An identifier of a key at a place: a blank, its letter, and its number in 4, 6 or 8 digits.
-pub fn put_pair(out: &mut [u8], at: usize, key: u32, kind: u8, number: u32) -> usize
+fn put_pair(out: &mut [u8], at: usize, key: u32, kind: u8, number: u32) -> usize
     ensures { λ r. ⌜ Puts (now (out .entry)) at (pairText (keyWidth key) (pair kind number)) (now (out .exit)) r ⌝ }
 {
     let p = put(out, at, 32);
@@ -160,7 +135,7 @@ fn state_size(on: bool) -> usize
 }
 
 // A word and a count at a place.
-pub fn put_counted<'a>(out: &mut [u8], at: usize, word: &'a [u8], n: usize) -> usize
+fn put_counted<'a>(out: &mut [u8], at: usize, word: &'a [u8], n: usize) -> usize
     ensures { λ r. ⌜ Puts (now (out .entry)) at (now (word .entry) ++ decimal n) (now (out .exit)) r ⌝ }
 {
     let p = put_bytes(out, at, word);
@@ -170,7 +145,7 @@ pub fn put_counted<'a>(out: &mut [u8], at: usize, word: &'a [u8], n: usize) -> u
 // ---- the line of a set
 
 // The line up to the identifiers, of which there are n, at a place.
-pub fn put_head(out: &mut [u8], at: usize, key: u32, on: bool, n: usize) -> usize
+fn put_head(out: &mut [u8], at: usize, key: u32, on: bool, n: usize) -> usize
     ensures { λ r. ⌜ Puts (now (out .entry)) at (hexText 4 key ++ 32 ∷ stateText on ++ idsText n) (now (out .exit)) r ⌝ }
 {
     let p = put_hex(out, at, 4, key);
@@ -179,7 +154,7 @@ pub fn put_head(out: &mut [u8], at: usize, key: u32, on: bool, n: usize) -> usiz
 }
 
 // The size of the line of a set.
-pub fn line_size(key: u32, on: bool, list: IdList) -> usize
+fn line_size(key: u32, on: bool, list: IdList) -> usize
     ensures { λ r. ⌜ (r ≡ length (lineOf (shownAs key on list))) × (r ≤ 1320) ⌝ }
 {
     let len = list.len;
@@ -192,7 +167,7 @@ pub fn line_size(key: u32, on: bool, list: IdList) -> usize
 }
 
 // The line of a set at a place.
-pub fn put_line(out: &mut [u8], at: usize, key: u32, on: bool, list: IdList) -> usize
+fn put_line(out: &mut [u8], at: usize, key: u32, on: bool, list: IdList) -> usize
     ensures { λ r. ⌜ Puts (now (out .entry)) at (lineOf (shownAs key on list)) (now (out .exit)) r ⌝ }
 {
     let len = list.len;
@@ -205,27 +180,10 @@ pub fn put_line(out: &mut [u8], at: usize, key: u32, on: bool, list: IdList) -> 
     put(out, m, 10)
 }
 
-// The line of a set at the front of a buffer; a buffer that is too short stays as it is.
-pub fn set_line(key: u32, on: bool, list: IdList, out: &mut [u8]) -> Written
-    ensures { λ r. ⌜ writtenAs r (now (out .exit)) ≡ writtenTo (lineOf (shownAs key on list)) (now (out .entry)) ⌝ }
-{
-    if out.len() < line_size(key, on, list) {
-        return Written {
-            outcome: Outcome::ShortBuffer,
-            size: 0,
-        };
-    }
-    let end = put_line(out, 0, key, on, list);
-    Written {
-        outcome: Outcome::Done,
-        size: end,
-    }
-}
-
 // ---- the first line and the tail
 
 // A line that is a word and a count, at a place.
-pub fn put_number_line<'a>(out: &mut [u8], at: usize, word: &'a [u8], n: usize) -> usize
+fn put_number_line<'a>(out: &mut [u8], at: usize, word: &'a [u8], n: usize) -> usize
     ensures { λ r. ⌜ Puts (now (out .entry)) at (now (word .entry) ++ decimal n ++ 10 ∷ []) (now (out .exit)) r ⌝ }
 {
     let p = put_counted(out, at, word, n);
@@ -233,45 +191,28 @@ pub fn put_number_line<'a>(out: &mut [u8], at: usize, word: &'a [u8], n: usize) 
 }
 
 // The size of the first line.
-pub fn first_size(count: usize) -> usize
+fn first_size(count: usize) -> usize
     ensures { λ r. ⌜ (r ≡ length (setsText count)) × (r ≤ 26) ⌝ }
 {
     6 + decimal_size(count)
 }
 
 // The first line at a place.
-pub fn put_first(out: &mut [u8], at: usize, count: usize) -> usize
+fn put_first(out: &mut [u8], at: usize, count: usize) -> usize
     ensures { λ r. ⌜ Puts (now (out .entry)) at (setsText count) (now (out .exit)) r ⌝ }
 {
     put_number_line(out, at, b"sets ", count)
 }
 
-// The first line at the front of a buffer; a buffer that is too short stays as it is.
-pub fn first_line(count: usize, out: &mut [u8]) -> Written
-    ensures { λ r. ⌜ writtenAs r (now (out .exit)) ≡ writtenTo (setsText count) (now (out .entry)) ⌝ }
-{
-    if out.len() < first_size(count) {
-        return Written {
-            outcome: Outcome::ShortBuffer,
-            size: 0,
-        };
-    }
-    let end = put_first(out, 0, count);
-    Written {
-        outcome: Outcome::Done,
-        size: end,
-    }
-}
-
 // The size of the tail: 0 where no byte is left over.
-pub fn tail_size(over: usize) -> usize
+fn tail_size(over: usize) -> usize
     ensures { λ r. ⌜ (r ≡ length (tailText over)) × (r ≤ 26) ⌝ }
 {
     if over == 0 { 0 } else { 6 + decimal_size(over) }
 }
 
 // The tail at a place.
-pub fn put_tail(out: &mut [u8], at: usize, over: usize) -> usize
+fn put_tail(out: &mut [u8], at: usize, over: usize) -> usize
     ensures { λ r. ⌜ Puts (now (out .entry)) at (tailText over) (now (out .exit)) r ⌝ }
 {
     if over == 0 {
@@ -281,43 +222,9 @@ pub fn put_tail(out: &mut [u8], at: usize, over: usize) -> usize
     }
 }
 
-// The tail at the front of a buffer; a buffer that is too short stays as it is.
-pub fn tail_line(over: usize, out: &mut [u8]) -> Written
-    ensures { λ r. ⌜ writtenAs r (now (out .exit)) ≡ writtenTo (tailText over) (now (out .entry)) ⌝ }
-{
-    if out.len() < tail_size(over) {
-        return Written {
-            outcome: Outcome::ShortBuffer,
-            size: 0,
-        };
-    }
-    let end = put_tail(out, 0, over);
-    Written {
-        outcome: Outcome::Done,
-        size: end,
-    }
-}
-
 // ---- the whole listing
 
-// How many sets a table shows.
-fn shown_count(table: Table) -> usize
-    requires { ⌜ table .count ≤ 32 ⌝ }
-    ensures { λ r. ⌜ r ≡ length (setsIn table) ⌝ }
-{
-    let mut n = 0;
-    let mut i = 0;
-    while i < table.count {
-        let shown = table.shown[i];
-        if shown.len != 0 {
-            n += 1;
-        }
-        i += 1;
-    }
-    n
-}
-
-// The size of the lines of its sets.
+// The size of the lines of the sets of a table.
 fn lines_size(table: Table) -> usize
     requires { ⌜ table .count ≤ 32 ⌝ }
     ensures { λ r. ⌜ (r ≡ length (linesOf (setsIn table))) × (r ≤ 42240) ⌝ }
@@ -364,7 +271,7 @@ pub fn write_listing(table: Table, over: usize, out: &mut [u8]) -> Written
             size: 0,
         };
     }
-    let sets = shown_count(table);
+    let sets = table.shown_count();
     let size = first_size(sets) + lines_size(table) + tail_size(over);
     if out.len() < size {
         return Written {

@@ -6,7 +6,7 @@ use lib.ListN.{length}
 use borrow.Author.Needs.{needs}
 use Rattle.rules.specs.Collecting.{keyWidth}
 use Rattle.rules.specs.Air.{pieceMost, cut}
-use Rattle.air.specs.Parts.{setIn}
+use Rattle.table.specs.Shown.{setIn}
 use Rattle.air.proofs.Ranges.{left}
 use Rattle.air.proofs.Sets.{Turn, left-none, part-turn}
 use Rattle.air.proofs.cut_count.Statement.{statement}

@@ -4,7 +4,7 @@ use mathlib.Core.Path.{ap, _∙_}
 use Rattle.rules.specs.Block.{bit}
 use Rattle.rules.specs.Air.{pieceMost}
 use Rattle.rules.specs.Collecting.{keyWidth}
-use Rattle.air.specs.Parts.{setIn}
+use Rattle.table.specs.Shown.{setIn}
 use Rattle.air.proofs.Sets.{pieces-length}
 use borrow.Author.Needs.{needs}
 use Rattle.air.proofs.piece_count.Statement.{statement}
@@ -34,12 +34,12 @@ add-result-2 c = search needs
 returns : tie.Need-returns
 unfolding setIn
 returns c =
-    let s = c .before .before .before .before .before .before .before in
-    let b = c .before .before .before in
+    let b = c .before .before .before .before .before .before .before in
+    let s = b .before .before .before .before .before .before .before .before in
     let r = b .bit-of .ensures .0 ∙ ap bit (b .before .is-dead .ensures) in
     let d = c .bit-of2 .ensures .0 ∙ ap bit (c .before .is-dead2 .ensures) in
-    let n = b .before .before .before .cut-count .ensures in (
-      omega (arith, n .0, r, d, pieces-length (pieceMost (keyWidth (s .args .key))) (setIn (s .args .list))),
+    let n = b .before .before .before .before .before .before .before .cut-count .ensures in (
+      omega (arith, n .0, r, d, pieces-length (pieceMost (keyWidth (s .args .key))) (setIn (s .args .t1))),
       omega (arith, n .1, b .bit-of .ensures .1, c .bit-of2 .ensures .1),
     )
 

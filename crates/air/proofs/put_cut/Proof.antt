@@ -8,7 +8,8 @@ use Rattle.rules.specs.Collecting.{keyWidth}
 use Rattle.rules.specs.Air.{pieceMost, cut, blocksOf}
 use Rattle.lists.proofs.StoredLaws.{holds-facts}
 use Rattle.out.proofs.Runs.{Going, going-start, going-on, going-end}
-use Rattle.air.specs.Parts.{setIn, Fitting}
+use Rattle.table.specs.Shown.{setIn}
+use Rattle.air.specs.Parts.{Fitting}
 use Rattle.air.proofs.Ranges.{left}
 use Rattle.air.proofs.Sets.{Turn, left-none, part-turn, part-fits}
 use Rattle.air.proofs.put_cut.Statement.{statement}

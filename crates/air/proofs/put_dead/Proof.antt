@@ -1,4 +1,3 @@
-use borrow.Author.Needs.{needs}
 -- `air::put_dead` meets its contract.
 use native.Mathlib.Omega.{arith}
 use mathlib.Core.Path.{_≡_, sym, ap, _∙_}
@@ -6,20 +5,20 @@ use mathlib.Core.List.{append-nil}
 use lib.ListN.{length}
 use borrow.Author.Needs.{needs}
 use Rattle.rules.specs.Air.{Piece, blocksOf, blockOf, figBytes}
-use Rattle.air.specs.Parts.{setIn}
+use Rattle.table.specs.Shown.{setIn}
 use Rattle.out.proofs.Runs.{puts-none, puts-as}
 use Rattle.air.proofs.Sets.{dead-piece, dead-there, dead-none}
 use Rattle.air.proofs.put_dead.Statement.{statement}
 use Rattle.air.proofs.put_dead.Tie as tie
 
 is-dead-requires : tie.Need-is-dead-requires
-is-dead-requires c κs = c .before .pre .0
+is-dead-requires c κs = tt
 
 put-block-requires : tie.Need-put-block-requires
 put-block-requires c κs =
-    let s = c .before .before .before .before .before .before .before in
+    let s = c .before .before .before .before .before .before .before .before .before .before .before .before in
     let nl : length (s .args .t5 .numbers) ≡ 128 = search needs in
-    record { ahead = omega arith; inside = omega arith; few = omega arith; kind = s .pre .1 }
+    record { ahead = omega arith; inside = omega arith; few = omega arith; kind = s .pre }
 
 cut-to-requires : tie.Need-cut-to-requires
 cut-to-requires c κs = search needs
@@ -28,11 +27,10 @@ same-length : tie.Need-same-length
 same-length c = search needs
 
 returns : tie.Need-returns
-unfolding blocksOf
+unfolding blocksOf setIn
 returns c =
     let b = c .before .before .before .before .before .before .before in
-    let s = b .before .before .before in
-    let a = s .args in
+    let a = b .before .before .before .before .before .before .before .before .args in
     puts-as
     (ap (λ (p : Piece). blockOf (figBytes (a .key) (a .on) p)) (dead-piece (a .t5 .numbers) (a .kind))
     ∙ sym (append-nil _)
@@ -40,10 +38,9 @@ returns c =
     (c .before .before .put-block .ensures)
 
 returns-2 : tie.Need-returns-2
-unfolding blocksOf
+unfolding blocksOf setIn
 returns-2 c =
-    let s = c .before .before .before .before in
-    let a = s .args in
+    let a = c .before .before .before .before .before .before .before .before .before .args in
     puts-as
     (ap (blocksOf (a .key) (a .on)) (sym (dead-none (a .kind) (a .named) (setIn (a .t5) .items) (sym (c .before .before .is-dead .ensures) ∙ c .before .if1 .left))))
     (puts-none _ _ _ (c .cut-to .ensures))

@@ -5,7 +5,8 @@ use mathlib.Core.Path.{refl}
 use Rattle.rules.specs.Collecting.{keyWidth}
 use Rattle.rules.proofs.AirPieces.{most-small}
 use Rattle.out.proofs.Runs.{puts-then, puts-as}
-use Rattle.air.proofs.Blocks.{width-small, few-bytes, fig-made}
+use Rattle.rules.proofs.SheetLaws.{width-most}
+use Rattle.air.proofs.Blocks.{few-bytes, fig-made}
 use borrow.Author.Needs.{needs}
 use Rattle.air.proofs.put_fig.Statement.{statement}
 use Rattle.air.proofs.put_fig.Tie as tie
@@ -104,7 +105,7 @@ put-bytes-requires c κs = search needs
 put-numbers-requires : tie.Need-put-numbers-requires
 put-numbers-requires c κs =
     let s = c .before .before .before .before .before .before .before .before .before .before .before .before in
-    (omega (arith, c .before .before .before .before .before .before .before .before .before .width-of .ensures, width-small (s .args .key)), s .pre .ahead, s .pre .inside)
+    (omega (arith, c .before .before .before .before .before .before .before .before .before .width-of .ensures, width-most (s .args .key)), s .pre .ahead, s .pre .inside)
 
 same-length : tie.Need-same-length
 same-length c = search needs

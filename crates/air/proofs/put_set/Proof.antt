@@ -1,6 +1,5 @@
 -- `air::put_set` meets its contract.
 use native.Mathlib.Omega.{arith}
-use Rattle.lists.proofs.StoredLaws.{holds-facts}
 use Rattle.out.proofs.Runs.{puts-then, puts-as}
 use Rattle.air.proofs.Output.{set-made}
 use borrow.Author.Needs.{needs}
@@ -11,10 +10,10 @@ put-cut-requires : tie.Need-put-cut-requires
 put-cut-requires c κs = search needs
 
 put-dead-requires : tie.Need-put-dead-requires
-put-dead-requires c κs = (holds-facts _ _ (c .before .before .before .before .before .before .pre) .short, omega arith)
+put-dead-requires c κs = omega arith
 
 put-dead-requires-2 : tie.Need-put-dead-requires-2
-put-dead-requires-2 c κs = (holds-facts _ _ (c .before .before .before .before .before .before .before .before .before .before .pre) .short, omega arith)
+put-dead-requires-2 c κs = omega arith
 
 same-length : tie.Need-same-length
 same-length c = search needs

@@ -19,7 +19,7 @@ returns c =
 
 count-all-requires : tie.Need-count-all-requires
 count-all-requires c κs =
-    let f = stored-facts _ (c .before .before .before .before .meets .ensures .sound (not-false _ (c .before .before .before .if1 .left))) in
+    let f = stored-facts _ (c .before .meets .ensures .sound (not-false _ (c .if1 .left))) in
     (f .short, f .shown-hold)
 
 mul-if2 : tie.Need-mul-if2
@@ -27,14 +27,14 @@ mul-if2 c = search needs
 
 returns-2 : tie.Need-returns-2
 returns-2 c =
-    let b = c .before .before .before .before .before in
+    let b = c .before .before in
     let a = b .before .before .before .args in
     answer-short (a .table) (b .before .meets .ensures .sound (not-false _ (b .if1 .left))) (a .out .now) (c .before .count-all .result)
-    (c .before .count-all .ensures .0 (a .table .on)) (c .if2 .taken)
+    (c .before .count-all .ensures .0) (c .if2 .taken)
 
 put-all-requires : tie.Need-put-all-requires
 put-all-requires c κs =
-    let b = c .before .before .before .before .before .before in
+    let b = c .before .before .before in
     let f = stored-facts _ (b .before .meets .ensures .sound (not-false _ (b .if1 .left))) in
     (omega (arith, f .short), f .shown-hold)
 
@@ -43,11 +43,11 @@ same-length c = search needs
 
 returns-3 : tie.Need-returns-3
 returns-3 c =
-    let b = c .before .before .before .before .before .before .before .before .before in
+    let b = c .before .before .before .before .before .before in
     let a = b .before .before .before .args in
     let n = c .before .before .before .before .before in
     answer-done (a .table) (b .before .meets .ensures .sound (not-false _ (b .if1 .left))) (a .out .now) (n .count-all .result)
-    (n .count-all .ensures .0 (a .table .on)) _ _ (c .before .before .before .before .if2 .left) (c .before .before .put-all .ensures)
+    (n .count-all .ensures .0) _ _ (c .before .before .before .before .if2 .left) (c .before .before .put-all .ensures)
 
 pub write-air-spec : {M : Type 1} → statement M
 write-air-spec =

@@ -2,7 +2,7 @@
 use mathlib.Core.Path.{sym, _∙_}
 use mathlib.Core.List.{append-nil}
 use Rattle.out.proofs.Runs.{puts-none, puts-as}
-use Rattle.text.specs.Lines.{shownAs}
+use Rattle.table.specs.Shown.{setIn, shownAs}
 use Rattle.columns.specs.Columns.{deadRows, rowsText}
 use Rattle.columns.specs.Cells.{cellOf}
 use borrow.Author.Needs.{needs}
@@ -22,11 +22,11 @@ same-length : tie.Need-same-length
 same-length c = search needs
 
 returns : tie.Need-returns
-unfolding deadRows rowsText shownAs cellOf
+unfolding deadRows rowsText shownAs setIn cellOf
 returns c = puts-as (rw (sym (c .before .before .before .before .before .is-dead .ensures) ∙ c .before .before .before .before .if1 .taken) (sym (append-nil _))) (c .before .before .put-row .ensures)
 
 returns-2 : tie.Need-returns-2
-unfolding deadRows rowsText shownAs
+unfolding deadRows rowsText shownAs setIn
 returns-2 c = puts-as (rw (sym (c .before .before .is-dead .ensures) ∙ c .before .if1 .left)) (puts-none _ _ _ (c .cut-to .ensures))
 
 pub put-dead-spec : {M : Type 1} → statement M

@@ -1,6 +1,6 @@
 -- `columns::put_set` meets its contract: its parts one after another.
 use Rattle.out.proofs.Runs.{puts-as, puts-then}
-use Rattle.text.specs.Lines.{shownAs}
+use Rattle.table.specs.Shown.{setIn, shownAs}
 use Rattle.columns.proofs.Lines.{set-parts}
 use borrow.Author.Needs.{needs}
 use Rattle.columns.proofs.put_set.Statement.{statement}
@@ -22,7 +22,7 @@ same-length : tie.Need-same-length
 same-length c = search needs
 
 returns : tie.Need-returns
-unfolding shownAs
+unfolding shownAs setIn
 returns c =
     let a = c .before .before .before .before .before .before .before .before .before .before .before .before .before .before .before .before .before .before .before .args in
     puts-as (set-parts (a .csv) (shownAs (a .key) (a .on) (a .list)))

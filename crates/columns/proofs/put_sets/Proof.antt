@@ -1,10 +1,11 @@
 -- `columns::put_sets` meets its contract: the text of the sets from the present entry on is what is left to write.
 use Prim.Native.Nat.{_-_}
+use native.Mathlib.Omega.{arith}
 use mathlib.Core.Path.{refl, sym, ap, subst}
 use mathlib.Core.Logic.{⊎-elim}
-use Rattle.out.proofs.Runs.{Going, going-start, going-on, going-end}
-use Rattle.text.specs.Sets.{setsFrom, setsIn}
-use Rattle.text.proofs.SetLaws.{sets-skip, sets-end, sets-all, going-as}
+use Rattle.out.proofs.Runs.{Going, going-start, going-on, going-as, going-end}
+use Rattle.table.specs.Shown.{setsFrom, setsIn}
+use Rattle.table.proofs.ShownLaws.{sets-skip, sets-end, sets-all}
 use Rattle.columns.specs.Columns.{setsText}
 use Rattle.columns.proofs.Whole.{text-next}
 use borrow.Author.Needs.{needs}
@@ -24,7 +25,7 @@ loop-holds : tie.Need-loop-holds Inv-loop μ-loop
 loop-holds c =
     let a = c .before .before .args in
     subst (λ rest. Going (a .out .now) (a .at) (setsText (a .csv) (setsIn (a .t4))) (a .out .now) (c .cut-to .result) rest)
-    (sym (ap (setsText (a .csv)) (sets-all (a .t4))))
+    (sym (ap (setsText (a .csv)) (sets-all (a .t4) {n = a .t4 .count} (omega (arith, c .before .before .pre)))))
     (going-start _ _ _ _ (c .cut-to .ensures))
 
 mul-set : tie.Need-mul-set Inv-loop μ-loop

@@ -8,7 +8,7 @@ use Rattle.rules.specs.Collecting.{keyWidth}
 use Rattle.rules.specs.Listing.{stateText}
 use Rattle.lists.specs.Stored.{pairsIn}
 use Rattle.lists.proofs.Pairs.{length-pairs-in}
-use Rattle.text.specs.Lines.{shownAs}
+use Rattle.table.specs.Shown.{setIn, shownAs}
 use Rattle.columns.proofs.Lines.{length-set}
 use borrow.Author.Needs.{needs}
 use Rattle.columns.proofs.set_size.Statement.{statement}
@@ -39,7 +39,7 @@ add-result-3 : tie.Need-add-result-3
 add-result-3 c = search needs
 
 returns : tie.Need-returns
-unfolding shownAs
+unfolding shownAs setIn
 returns c =
     let a = c .before .before .before .before .before .before .before .args in
     let l = a .list in

@@ -5,10 +5,10 @@ use mathlib.Core.Path.{_≡_, ap}
 use mathlib.Core.Logic.{⊎-elim}
 use mathlib.Core.List.{_++_}
 use lib.ListN.{length, length-append}
-use Rattle.text.specs.Sets.{setsFrom, setsIn}
-use Rattle.text.proofs.SetLaws.{sets-skip, sets-end, sets-all}
+use Rattle.table.specs.Shown.{setsFrom, setsIn}
+use Rattle.table.proofs.ShownLaws.{shownAt, sets-skip, sets-end, sets-all}
 use Rattle.columns.specs.Columns.{rowsOf, rowsText, ruleText, setsText}
-use Rattle.columns.proofs.Whole.{shownAt, text-next}
+use Rattle.columns.proofs.Whole.{text-next}
 use borrow.Author.Needs.{needs}
 use Rattle.columns.proofs.sets_size.Statement.{statement}
 use Rattle.columns.proofs.sets_size.Tie as tie
@@ -21,7 +21,7 @@ abbrev μ-loop : tie.MeasureT-loop
 μ-loop csv table size₀ i₀ size i = table .count - i
 
 loop-holds : tie.Need-loop-holds Inv-loop μ-loop
-loop-holds c = (omega (arith, ap (λ ss. length (setsText (c .args .csv) ss)) (sets-all (c .args .t2))), omega arith, omega arith)
+loop-holds c = (omega (arith, ap (λ ss. length (setsText (c .args .csv) ss)) (sets-all (c .args .t2) {n = c .args .t2 .count} (omega (arith, c .pre)))), omega arith, omega arith)
 
 mul-list : tie.Need-mul-list Inv-loop μ-loop
 mul-list c = search needs

@@ -4,7 +4,7 @@ use lib.ListN.{length}
 use Rattle.rules.specs.Sheet.{sheetNumber, sheetSet}
 use Rattle.out.specs.Put.{Puts}
 use Rattle.out.proofs.Runs.{puts-as, puts-then, puts-length}
-use Rattle.sheet.specs.Writing.{shownAs}
+use Rattle.table.specs.Shown.{setIn, shownAs}
 use Rattle.sheet.proofs.Writes.{pairs-many}
 use borrow.Author.Needs.{needs}
 use Rattle.sheet.proofs.put_set.Statement.{statement}
@@ -42,7 +42,7 @@ put-pairs-requires c κs = search needs
 wrote : (c : tie.After-slice-known6)
     → Puts (c .before .before .before .before .before .before .before .before .before .before .before .before .before .before .before .before .before .before .before .before .before .before .before .before .args .out .now) (c .before .before .before .before .before .before .before .before .before .before .before .before .before .before .before .before .before .before .before .before .before .before .before .before .args .at) (sheetSet (shownAs (c .before .before .before .before .before .before .before .before .before .before .before .before .before .before .before .before .before .before .before .before .before .before .before .before .args .key) (c .before .before .before .before .before .before .before .before .before .before .before .before .before .before .before .before .before .before .before .before .before .before .before .before .args .on) (c .before .before .before .before .before .before .before .before .before .before .before .before .before .before .before .before .before .before .before .before .before .before .before .before .args .list)))
     (c .before .before .put-pairs .last .0) (c .before .before .put-pairs .result)
-unfolding sheetSet shownAs
+unfolding sheetSet shownAs setIn
 wrote c =
     let l = long (c .before .before .before .before .before .before .before .before .before .before .before .before .before .before .before .before .before .before .before .before .before .before .before .before) in
     puts-then

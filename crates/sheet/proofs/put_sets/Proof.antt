@@ -2,20 +2,18 @@
 use Prim.Native.Nat.{_-_}
 use native.Mathlib.Omega.{arith}
 use mathlib.Core.Logic.{⊎-elim}
-use lib.ListN.{drop}
-use Rattle.rules.specs.Collecting.{shownSets}
+use mathlib.Core.Path.{refl, sym, ap, subst}
 use Rattle.rules.specs.Sheet.{sheetSets}
-use Rattle.table.specs.Stored.{Stored}
-use Rattle.out.proofs.Runs.{Going, going-start, going-on, going-end}
-use Rattle.sheet.specs.Writing.{OfStored}
-use Rattle.sheet.proofs.Shown.{list-short, table-short}
-use Rattle.sheet.proofs.Writes.{sets-skipped, sets-here, sets-end}
+use Rattle.table.specs.Shown.{setsFrom, setsIn}
+use Rattle.table.proofs.ShownLaws.{sets-skip, sets-end, sets-all}
+use Rattle.out.proofs.Runs.{Going, going-start, going-on, going-as, going-end}
+use Rattle.sheet.proofs.Writes.{sets-here, list-short, table-short}
 use borrow.Author.Needs.{needs}
 use Rattle.sheet.proofs.put_sets.Statement.{statement}
 use Rattle.sheet.proofs.put_sets.Tie as tie
 
 abbrev Inv-loop : tie.InvT-loop
-Inv-loop out₀ at table count p₀ i₀ out p i = OfStored table (λ c. Going out₀ at (sheetSets (shownSets c)) out p (sheetSets (shownSets (drop i c))))
+Inv-loop out₀ at table count p₀ i₀ out p i = Going out₀ at (sheetSets (setsIn table)) out p (sheetSets (setsFrom table i (count - i)))
 
 abbrev μ-loop : tie.MeasureT-loop
 μ-loop out₀ at table count p₀ i₀ out p i = count - i
@@ -24,8 +22,11 @@ cut-to-requires : tie.Need-cut-to-requires Inv-loop μ-loop
 cut-to-requires c κs = search needs
 
 loop-holds : tie.Need-loop-holds Inv-loop μ-loop
-unfolding OfStored
-loop-holds c = λ d m e. going-start _ _ _ _ (c .cut-to .ensures)
+loop-holds c =
+    let a = c .before .before .args in
+    subst (λ rest. Going (a .out .now) (a .at) (sheetSets (setsIn (a .t3))) (a .out .now) (c .cut-to .result) rest)
+    (sym (ap sheetSets (sets-all (a .t3) {n = a .t3 .count} (omega (arith, table-short _ (c .before .before .pre))))))
+    (going-start _ _ _ _ (c .cut-to .ensures))
 
 mul-list : tie.Need-mul-list Inv-loop μ-loop
 mul-list c = omega (arith, table-short _ (c .before .before .before .before .pre))
@@ -52,23 +53,23 @@ loop-less : tie.Need-loop-less Inv-loop μ-loop
 loop-less c = search needs
 
 loop-again : tie.Need-loop-again Inv-loop μ-loop
-unfolding OfStored
 loop-again c =
     let t = c .before .before .before .before .before .before .before .args .t3 in
     let at = c .before .before .before .before .loop in
     let h = c .before .before .before .loop-test .taken in
-    λ d m e. ⊎-elim
-    (λ w. rw (w .7, w .8) (going-on (sets-here t d m e (at .i) h (w .0 .taken)) (at .inv d m e) (w .4 .ensures)))
-    (λ w. rw (w .1, w .2) (rw (sets-skipped t d m e (at .i) h (w .0 .left)) at (at .inv d m e)))
+    ⊎-elim
+    (λ w. going-as (w .7) (w .8) refl (going-on (sets-here t (at .i) (t .count) h (w .0 .taken)) (at .inv) (w .4 .ensures)))
+    (λ w. going-as (w .1) (w .2) (ap sheetSets (sets-skip t (at .i) (t .count) h (w .0 .left))) (at .inv))
     (c .if1 .came)
 
 same-length : tie.Need-same-length Inv-loop μ-loop
-unfolding OfStored Stored
-same-length c = let s = c .before .before .before .before .pre in c .before .loop .inv (s .0) (s .1) (s .2) .long
+same-length c = c .before .loop .inv .long
 
 returns : tie.Need-returns Inv-loop μ-loop
-unfolding OfStored
-returns c = λ d m e. going-end (sets-end (c .before .before .before .before .args .t3) d m e (c .before .loop .i) (c .loop-test .left)) (c .before .loop .inv d m e)
+unfolding sheetSets
+returns c =
+    let t = c .before .before .before .before .args .t3 in
+    going-end (ap sheetSets (sets-end t (c .before .loop .i) (t .count) (c .loop-test .left))) (c .before .loop .inv)
 
 pub put-sets-spec : {M : Type 1} → statement M
 put-sets-spec =

@@ -3,26 +3,24 @@ use Prim.Native.Nat.{_+_, _-_}
 use native.Mathlib.Omega.{arith}
 use mathlib.Core.Logic.{⊎-elim}
 use mathlib.Core.Path.{_≡_, ap}
-use lib.ListN.{length, drop}
-use Rattle.rules.specs.Collecting.{shownSets}
+use lib.ListN.{length}
 use Rattle.rules.specs.Sheet.{sheetSets}
-use Rattle.table.specs.Stored.{Stored}
-use Rattle.sheet.specs.Writing.{OfStored}
-use Rattle.sheet.proofs.Shown.{list-short, table-short}
-use Rattle.sheet.proofs.Writes.{sets-skipped, size-sets, sets-end, sets-short}
+use Rattle.table.specs.Shown.{setsFrom, setsIn}
+use Rattle.table.proofs.ShownLaws.{sets-skip, sets-end, sets-all}
+use Rattle.sheet.proofs.Writes.{size-sets, list-short, table-short, sets-short}
 use borrow.Author.Needs.{needs}
 use Rattle.sheet.proofs.sets_size.Statement.{statement}
 use Rattle.sheet.proofs.sets_size.Tie as tie
 
 abbrev Inv-loop : tie.InvT-loop
-Inv-loop table count size₀ i₀ size i = OfStored table (λ c. size + length (sheetSets (shownSets (drop i c))) ≡ length (sheetSets (shownSets c)))
+Inv-loop table count size₀ i₀ size i = size + length (sheetSets (setsFrom table i (count - i))) ≡ length (sheetSets (setsIn table))
 
 abbrev μ-loop : tie.MeasureT-loop
 μ-loop table count size₀ i₀ size i = count - i
 
 loop-holds : tie.Need-loop-holds Inv-loop μ-loop
-unfolding OfStored
-loop-holds c = λ d m e. omega arith
+loop-holds c =
+    omega (arith, ap (λ ss. length (sheetSets ss)) (sets-all (c .args .t1) {n = c .args .t1 .count} (omega (arith, table-short _ (c .pre)))))
 
 mul-list : tie.Need-mul-list Inv-loop μ-loop
 mul-list c = omega (arith, table-short _ (c .before .before .pre))
@@ -43,16 +41,15 @@ set-size-requires : tie.Need-set-size-requires Inv-loop μ-loop
 set-size-requires c κs = list-short (c .before .before .before .before .before .before .before .args .t1) _ (c .before .before .before .before .before .before .before .pre) (c .before .before .before .before .before .loop-test .taken)
 
 add-size : tie.Need-add-size Inv-loop μ-loop
-unfolding OfStored Stored
 add-size c =
     let t = c .before .before .before .before .before .before .before .before .args .t1 in
     let s = c .before .before .before .before .before .before .before .before .pre in
     omega (
       arith,
-      size-sets t (s .0) (s .1) (s .2) (c .before .before .before .before .before .before .before .loop .i) (c .before .before .before .before .before .before .loop-test .taken) (c .before .before .before .if1 .taken),
-      c .before .before .before .before .before .before .before .loop .inv (s .0) (s .1) (s .2),
+      size-sets t (c .before .before .before .before .before .before .before .loop .i) (t .count) (c .before .before .before .before .before .before .loop-test .taken) (c .before .before .before .if1 .taken),
+      c .before .before .before .before .before .before .before .loop .inv,
       c .set-size .ensures,
-      sets-short (s .0) (s .1),
+      sets-short t s,
     )
 
 add-i : tie.Need-add-i Inv-loop μ-loop
@@ -62,20 +59,20 @@ loop-less : tie.Need-loop-less Inv-loop μ-loop
 loop-less c = search needs
 
 loop-again : tie.Need-loop-again Inv-loop μ-loop
-unfolding OfStored
 loop-again c =
     let t = c .before .before .before .before .before .args .t1 in
     let at = c .before .before .before .before .loop in
     let h = c .before .before .before .loop-test .taken in
-    λ d m e. ⊎-elim
-    (λ w. omega (arith, at .inv d m e, size-sets t d m e (at .i) h (w .0 .taken), w .3 .ensures))
-    (λ w. omega (arith, at .inv d m e, ap length (sets-skipped t d m e (at .i) h (w .0 .left))))
+    ⊎-elim
+    (λ w. omega (arith, at .inv, size-sets t (at .i) (t .count) h (w .0 .taken), w .3 .ensures))
+    (λ w. omega (arith, at .inv, ap (λ ss. length (sheetSets ss)) (sets-skip t (at .i) (t .count) h (w .0 .left))))
     (c .if1 .came)
 
 returns : tie.Need-returns Inv-loop μ-loop
-unfolding OfStored
+unfolding sheetSets
 returns c =
-    λ d m e. omega (arith, c .before .loop .inv d m e, ap length (sets-end (c .before .before .args .t1) d m e (c .before .loop .i) (c .loop-test .left)))
+    let t = c .before .before .args .t1 in
+    omega (arith, c .before .loop .inv, ap (λ ss. length (sheetSets ss)) (sets-end t (c .before .loop .i) (t .count) (c .loop-test .left)))
 
 pub sets-size-spec : {M : Type 1} → statement M
 sets-size-spec =

@@ -1,12 +1,18 @@
 -- `sheet::write_sheet` meets its contract: a table that is not stored is refused; of another, the count and the sets are the sheet.
+use Prim.Native.Nat.{_+_}
 use native.Mathlib.Omega.{arith}
-use mathlib.Core.Path.{refl}
+use mathlib.Core.Path.{_≡_, refl}
+use mathlib.Core.Bool.{true}
+use lib.ListN.{length}
 use borrow.Author.Tests.{not-true, not-false}
-use Rattle.lists.proofs.StoredLaws.{fails}
-use Rattle.table.specs.Stored.{stored, notStored, Stored}
+use Rattle.rules.specs.Collecting.{Content, meets}
+use Rattle.rules.specs.Sheet.{sheet}
+use Rattle.table.specs.Stored.{storeTable, Stored}
+use Rattle.table.proofs.GivenLaws.{given-wrong, given-right}
+use Rattle.table.proofs.ShownLaws.{sets-few}
 use Rattle.out.specs.Answer.{writtenAs}
 use Rattle.out.proofs.Answers.{written-short, written-done}
-use Rattle.sheet.specs.Writing.{OfStored, notWritten}
+use Rattle.sheet.specs.Writing.{notWritten}
 use Rattle.sheet.proofs.Groups.{number-short}
 use Rattle.sheet.proofs.Writes.{sets-short, size-sheet, puts-sheet}
 use borrow.Author.Needs.{needs}
@@ -22,10 +28,13 @@ meets-requires c κs = search needs
 
 returns : tie.Need-returns
 unfolding writtenAs notWritten
-returns c = notStored (λ s. fails refl (not-true _ (c .if1 .taken)) (c .before .meets .ensures .complete s)) refl
+returns c = given-wrong (c .before .meets .ensures) (not-true _ (c .if1 .taken)) refl
 
 shown-count-requires : tie.Need-shown-count-requires
-shown-count-requires c κs = is-stored c
+shown-count-requires c κs = tt
+
+cast-count : tie.Need-cast-count
+cast-count c = omega (arith, c .shown-count .ensures, sets-few (c .before .before .before .before .args .table))
 
 number-size-requires : tie.Need-number-size-requires
 number-size-requires c κs = search needs
@@ -34,17 +43,25 @@ sets-size-requires : tie.Need-sets-size-requires
 sets-size-requires c κs = is-stored (c .before .before)
 
 add-size : tie.Need-add-size
-unfolding OfStored Stored
 add-size c =
-    let s = is-stored (c .before .before .before) in
-    omega (arith, c .sets-size .ensures (s .0) (s .1) (s .2), sets-short (s .0) (s .1), c .before .number-size .ensures, number-short (c .before .before .shown-count .result))
+    omega (
+      arith,
+      c .sets-size .ensures,
+      sets-short _ (is-stored (c .before .before .before)),
+      c .before .number-size .ensures,
+      number-short (c .before .before .shown-count .result),
+    )
+
+-- the sizes that are added up make that of the sheet
+sized : (s : tie.After-sets-size) (d : Content) → meets d ≡ true → s .before .before .before .before .before .before .args .table ≡ storeTable d
+    → s .before .number-size .result + s .sets-size .result ≡ length (sheet d)
+sized s d m e = size-sheet _ d m e (s .before .before .shown-count .ensures) (s .before .number-size .ensures) (s .sets-size .ensures)
 
 returns-2 : tie.Need-returns-2
-unfolding OfStored Stored
 returns-2 c =
-    let s = is-stored (c .before .before .before .before) in
-    let size = size-sheet (s .0) (c .before .before .before .shown-count .ensures (s .0) (s .1) (s .2)) (c .before .before .number-size .ensures) (c .before .sets-size .ensures (s .0) (s .1) (s .2)) in
-    stored (s .0) (s .1) (s .2) (written-short _ _ (omega (arith, size, c .if2 .taken)))
+    let s = c .before in
+    given-right (s .before .before .before .before .meets .ensures) (not-false _ (s .before .before .before .if1 .left)) (λ d m e.
+    written-short _ _ (omega (arith, c .if2 .taken, sized s d m e)))
 
 put-number-requires : tie.Need-put-number-requires
 put-number-requires c κs = search needs
@@ -56,14 +73,11 @@ same-length : tie.Need-same-length
 same-length c = search needs
 
 returns-3 : tie.Need-returns-3
-unfolding OfStored Stored
 returns-3 c =
-    let s = is-stored (c .before .before .before .before .before .before .before .before .before .before .before .before) in
-    let count = c .before .before .before .before .before .before .before .before .before .before .before .shown-count .ensures (s .0) (s .1) (s .2) in
-    let size = size-sheet (s .0) count (c .before .before .before .before .before .before .before .before .before .before .number-size .ensures) (c .before .before .before .before .before .before .before .before .before .sets-size .ensures (s .0) (s .1) (s .2)) in
-    stored (s .0) (s .1) (s .2)
-    (written-done (omega (arith, size, c .before .before .before .before .before .before .before .before .if2 .left))
-    (puts-sheet (s .0) count (c .before .before .before .before .before .before .put-number .ensures) (c .before .before .put-sets .ensures (s .0) (s .1) (s .2))))
+    let s = c .before .before .before .before .before .before .before .before .before in
+    given-right (s .before .before .before .before .meets .ensures) (not-false _ (s .before .before .before .if1 .left)) (λ d m e.
+    written-done (omega (arith, c .before .before .before .before .before .before .before .before .if2 .left, sized s d m e))
+    (puts-sheet _ d m e (s .before .before .shown-count .ensures) (c .before .before .before .before .before .before .put-number .ensures) (c .before .before .put-sets .ensures)))
 
 pub write-sheet-spec : {M : Type 1} → statement M
 write-sheet-spec =
@@ -72,6 +86,7 @@ write-sheet-spec =
     meets-requires
     returns
     shown-count-requires
+    cast-count
     number-size-requires
     sets-size-requires
     add-size

@@ -3,13 +3,11 @@ use Prim.Native.Nat.{_+_, _-_, _*_, _≤_}
 use native.Mathlib.Omega.{arith}
 use mathlib.Core.Path.{_≡_, ap}
 use mathlib.Core.Logic.{⊎-elim}
-use mathlib.Core.Bool.{false}
-use lib.ListN.{length, getD, length-append}
+use lib.ListN.{length, length-append}
 use Rattle.rules.specs.Listing.{lineOf, linesOf}
-use Rattle.table.specs.Stored.{past}
-use Rattle.text.specs.Lines.{shownAs}
-use Rattle.text.specs.Sets.{setsFrom, setsIn}
-use Rattle.text.proofs.SetLaws.{sets-skip, lines-next, sets-end, sets-all}
+use Rattle.table.specs.Shown.{setsFrom, setsIn}
+use Rattle.table.proofs.ShownLaws.{shownAt, sets-skip, sets-end, sets-all}
+use Rattle.text.proofs.SetLaws.{lines-next}
 use borrow.Author.Needs.{needs}
 use Rattle.text.proofs.lines_size.Statement.{statement}
 use Rattle.text.proofs.lines_size.Tie as tie
@@ -22,7 +20,7 @@ abbrev μ-loop : tie.MeasureT-loop
 μ-loop table size₀ i₀ size i = table .count - i
 
 loop-holds : tie.Need-loop-holds Inv-loop μ-loop
-loop-holds c = (omega (arith, ap (λ ss. length (linesOf ss)) (sets-all (c .args .t1))), omega arith, omega arith)
+loop-holds c = (omega (arith, ap (λ ss. length (linesOf ss)) (sets-all (c .args .t1) {n = c .args .t1 .count} (omega (arith, c .pre)))), omega arith, omega arith)
 
 mul-list : tie.Need-mul-list Inv-loop μ-loop
 mul-list c = search needs
@@ -64,7 +62,7 @@ loop-again c =
         w .4,
         w .3 .ensures .0,
         ap length (lines-next t (at .i) (t .count) inside (w .0 .taken)),
-        length-append (lineOf (shownAs (getD (t .keys) (at .i) 0) (getD (t .on) (at .i) false) (getD (t .shown) (at .i) past))) (linesOf (setsFrom t (at .i + 1) (t .count - (at .i + 1)))),
+        length-append (lineOf (shownAt t (at .i))) (linesOf (setsFrom t (at .i + 1) (t .count - (at .i + 1)))),
       ),
       omega (arith, at .inv .1, w .4, w .3 .ensures .1),
       omega (arith, inside),

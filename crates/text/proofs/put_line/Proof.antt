@@ -8,7 +8,7 @@ use Rattle.rules.specs.Listing.{hexText, stateText, idsText, lineOf}
 use Rattle.lists.specs.Stored.{pairsIn}
 use Rattle.lists.proofs.Pairs.{length-pairs-in}
 use Rattle.out.proofs.Runs.{puts-length, puts-as, puts-then}
-use Rattle.text.specs.Lines.{shownAs}
+use Rattle.table.specs.Shown.{setIn, shownAs}
 use borrow.Author.Needs.{needs}
 use Rattle.text.proofs.put_line.Statement.{statement}
 use Rattle.text.proofs.put_line.Tie as tie
@@ -32,7 +32,7 @@ put-requires : tie.Need-put-requires
 put-requires c κs = tt
 
 returns : tie.Need-returns
-unfolding lineOf shownAs
+unfolding lineOf shownAs setIn
 returns c =
     let a = c .before .before .before .before .before .before .before .before .before .before .before .before .before .before .before .before .before .before .before .before .before .before .before .before .before .before .before .before .before .before .before .before .before .before .before .before .before .args in
     let ns : length (a .t5 .numbers) ≡ 128 = search needs in

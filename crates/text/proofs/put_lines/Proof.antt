@@ -1,11 +1,13 @@
 -- `text::put_lines` meets its contract: the lines of the sets from the present entry on are what is left to write.
 use Prim.Native.Nat.{_-_}
+use native.Mathlib.Omega.{arith}
 use mathlib.Core.Path.{refl, sym, ap, subst}
 use mathlib.Core.Logic.{⊎-elim}
 use Rattle.rules.specs.Listing.{linesOf}
-use Rattle.out.proofs.Runs.{Going, going-start, going-on, going-end}
-use Rattle.text.specs.Sets.{setsFrom, setsIn}
-use Rattle.text.proofs.SetLaws.{sets-skip, lines-next, sets-end, sets-all, going-as}
+use Rattle.out.proofs.Runs.{Going, going-start, going-on, going-as, going-end}
+use Rattle.table.specs.Shown.{setsFrom, setsIn}
+use Rattle.table.proofs.ShownLaws.{sets-skip, sets-end, sets-all}
+use Rattle.text.proofs.SetLaws.{lines-next}
 use borrow.Author.Needs.{needs}
 use Rattle.text.proofs.put_lines.Statement.{statement}
 use Rattle.text.proofs.put_lines.Tie as tie
@@ -21,9 +23,10 @@ cut-to-requires c κs = tt
 
 loop-holds : tie.Need-loop-holds Inv-loop μ-loop
 loop-holds c =
+    let a = c .before .before .args in
     subst
-    (λ rest. Going (c .before .before .args .out .now) (c .before .before .args .at) (linesOf (setsIn (c .before .before .args .t3))) (c .before .before .args .out .now) (c .cut-to .result) rest)
-    (sym (ap linesOf (sets-all (c .before .before .args .t3))))
+    (λ rest. Going (a .out .now) (a .at) (linesOf (setsIn (a .t3))) (a .out .now) (c .cut-to .result) rest)
+    (sym (ap linesOf (sets-all (a .t3) {n = a .t3 .count} (omega (arith, c .before .before .pre)))))
     (going-start _ _ _ _ (c .cut-to .ensures))
 
 mul-set : tie.Need-mul-set Inv-loop μ-loop

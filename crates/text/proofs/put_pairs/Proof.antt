@@ -7,7 +7,7 @@ use Rattle.rules.specs.Collecting.{keyWidth}
 use Rattle.rules.specs.Listing.{pairsText}
 use Rattle.lists.specs.Stored.{pairsIn}
 use Rattle.out.proofs.Runs.{Going, going-start, going-on, going-end}
-use Rattle.text.proofs.Texts.{pairs-here, pairs-end}
+use Rattle.lists.proofs.KindLaws.{pairs-here, pairs-end}
 use borrow.Author.Needs.{needs}
 use Rattle.text.proofs.put_pairs.Statement.{statement}
 use Rattle.text.proofs.put_pairs.Tie as tie

@@ -1,8 +1,14 @@
 -- `text::write_listing` meets its contract: the sets in the arrays of a stored table are those of its content, and the lines
 -- follow each other.
+use Prim.Native.Nat.{_+_}
 use native.Mathlib.Omega.{arith}
-use mathlib.Core.Path.{refl}
+use mathlib.Core.Path.{_≡_, refl}
+use mathlib.Core.Bool.{true}
+use lib.ListN.{length}
 use borrow.Author.Tests.{not-true, not-false}
+use Rattle.rules.specs.Collecting.{Content, meets}
+use Rattle.rules.specs.Listing.{listing}
+use Rattle.table.specs.Stored.{storeTable}
 use Rattle.table.proofs.GivenLaws.{given-wrong, given-right, tested-short}
 use Rattle.out.specs.Answer.{writtenAs}
 use Rattle.out.proofs.Runs.{puts-as, puts-then}
@@ -20,7 +26,7 @@ unfolding writtenAs
 returns c = given-wrong (c .before .meets .ensures) (not-true _ (c .if1 .taken)) refl
 
 shown-count-requires : tie.Need-shown-count-requires
-shown-count-requires c κs = tested-short (c .before .before .before .args .table) (c .before .meets .ensures) (not-false _ (c .if1 .left))
+shown-count-requires c κs = tt
 
 first-size-requires : tie.Need-first-size-requires
 first-size-requires c κs = search needs
@@ -37,16 +43,18 @@ tail-size-requires c κs = search needs
 add-size-2 : tie.Need-add-size-2
 add-size-2 c = search needs
 
+-- the sizes that are added up make that of the listing
+sized : (s : tie.After-tail-size) (d : Content) → meets d ≡ true → s .before .before .before .before .before .before .before .args .table ≡ storeTable d
+    → s .before .before .first-size .result + s .before .lines-size .result + s .tail-size .result
+    ≡ length (listing d (s .before .before .before .before .before .before .before .args .over))
+sized s d m e =
+    listing-size _ d m e _ _ (s .before .before .before .shown-count .ensures) (s .before .before .first-size .ensures .0) (s .before .lines-size .ensures .0) (s .tail-size .ensures .0)
+
 returns-2 : tie.Need-returns-2
 returns-2 c =
-    let a = c .before .before .before .before .before .before .before .before .args in
-    given-right (c .before .before .before .before .before .before .meets .ensures) (not-false _ (c .before .before .before .before .before .if1 .left)) (λ d m e.
-    written-short _ _
-    (omega (
-      arith,
-      c .if2 .taken,
-      listing-size (a .table) d m e (a .over) _ (c .before .before .before .before .shown-count .ensures) (c .before .before .before .first-size .ensures .0) (c .before .before .lines-size .ensures .0) (c .before .tail-size .ensures .0),
-    )))
+    let s = c .before in
+    given-right (s .before .before .before .before .before .meets .ensures) (not-false _ (s .before .before .before .before .if1 .left)) (λ d m e.
+    written-short _ _ (omega (arith, c .if2 .taken, sized s d m e)))
 
 put-first-requires : tie.Need-put-first-requires
 put-first-requires c κs = search needs
@@ -62,16 +70,10 @@ same-length c = search needs
 
 returns-3 : tie.Need-returns-3
 returns-3 c =
-    let a = c .before .before .before .before .before .before .before .before .before .before .before .before .before .before .before .before .before .before .before .before .args in
-    let n = c .before .before .before .before .before .before .before .before .before .before .before .before .before .before .before .before .shown-count .ensures in
-    given-right (c .before .before .before .before .before .before .before .before .before .before .before .before .before .before .before .before .before .before .meets .ensures) (not-false _ (c .before .before .before .before .before .before .before .before .before .before .before .before .before .before .before .before .before .if1 .left)) (λ d m e.
-    written-done
-    (omega (
-      arith,
-      c .before .before .before .before .before .before .before .before .before .before .before .before .if2 .left,
-      listing-size (a .table) d m e (a .over) _ n (c .before .before .before .before .before .before .before .before .before .before .before .before .before .before .before .first-size .ensures .0) (c .before .before .before .before .before .before .before .before .before .before .before .before .before .before .lines-size .ensures .0) (c .before .before .before .before .before .before .before .before .before .before .before .before .before .tail-size .ensures .0),
-    ))
-    (puts-as (listing-of (a .table) d m e (a .over) _ n)
+    let s = c .before .before .before .before .before .before .before .before .before .before .before .before .before in
+    given-right (s .before .before .before .before .before .meets .ensures) (not-false _ (s .before .before .before .before .if1 .left)) (λ d m e.
+    written-done (omega (arith, c .before .before .before .before .before .before .before .before .before .before .before .before .if2 .left, sized s d m e))
+    (puts-as (listing-of _ d m e _ _ (s .before .before .before .shown-count .ensures))
     (puts-then (puts-then (c .before .before .before .before .before .before .before .before .before .before .put-first .ensures) (c .before .before .before .before .before .before .put-lines .ensures)) (c .before .before .put-tail .ensures))))
 
 pub write-listing-spec : {M : Type 1} → statement M

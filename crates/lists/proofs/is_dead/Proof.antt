@@ -1,7 +1,7 @@
--- `text::is_dead` meets its contract: what is not named is none, and else the search decides.
+-- `lists::is_dead` meets its contract: what is not named is none, and else the search decides.
 use borrow.Author.Needs.{needs}
-use Rattle.text.proofs.is_dead.Statement.{statement}
-use Rattle.text.proofs.is_dead.Tie as tie
+use Rattle.lists.proofs.is_dead.Statement.{statement}
+use Rattle.lists.proofs.is_dead.Tie as tie
 
 has-kind-requires : tie.Need-has-kind-requires
 has-kind-requires c κs = tt
