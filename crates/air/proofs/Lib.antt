@@ -1,7 +1,6 @@
--- The laws above specs/, in the order in which they build on each other, and what the contract promises.
+-- The laws above specs/, in the order in which they build on each other.
 pub mod Lists
 pub mod Ranges
 pub mod Sets
 pub mod Blocks
 pub mod Output
-pub mod Promises

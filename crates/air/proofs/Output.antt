@@ -101,8 +101,7 @@ air-of t c m e =
 
 -- ---- the answer
 
--- what write_air's contract says of a table, the buffer before, the answer and the buffer after: its proof answers in these
--- words, and Promises.antt goes by them
+-- what write_air's contract says of a table, the buffer before, the answer and the buffer after: its proof answers in these words
 abbrev pub WritesAir : Table → List ℕ → Written → List ℕ → Type 0
 WritesAir t old r new =
     Given t (λ c. writtenAs r new ≡ writtenTo (air c) old) (writtenAs r new ≡ record { outcome = WrongTable; size = 0; buffer = old })

@@ -1,11 +1,14 @@
--- The contracts of the public functions that are given a table, each with a name, as their `ensures` have them.
+-- The contracts of the public functions that are given a table, each with a name. Proved.antt shows that each is what its function is
+-- proved to meet.
 use Prim.Native.Nat.{ℕ}
 use mathlib.Core.Path.{_≡_}
 use mathlib.Core.Bool.{Bool}
 use mathlib.Core.List.{List}
 use Rattle.rules.specs.declared.Outcome.the-variants.{WrongTable}
+use Rattle.rules.specs.Collecting.{Content}
 use Rattle.rules.specs.Outcomes.{readBlock, copyOut, notCopied}
-use Rattle.rules.specs.Air.{writtenTo}
+use Rattle.rules.specs.Air.{air, writtenTo}
+use Rattle.rules.specs.Sheet.{sheet}
 use Rattle.rules.specs.Listing.{listing}
 use Rattle.table.specs.declared.Table.{Table}
 use Rattle.table.specs.declared.Forgotten.{Forgotten}
@@ -32,12 +35,21 @@ Forgets t k r = Given t (λ c. r ≡ forgottenAs k c) (r ≡ record { outcome = 
 abbrev pub CopiesOut : Table → ℕ → List ℕ → List ℕ → Copied → List ℕ → List ℕ → Type 0
 CopiesOut t k ns ks r ms js = Given t (λ c. copiedAs r ms js ≡ copyOut k c ns ks) (copiedAs r ms js ≡ notCopied WrongTable ns ks)
 
--- the bytes left over, the buffer before, the answer, the buffer after
-abbrev pub WritesListing : Table → ℕ → List ℕ → Written → List ℕ → Type 0
-WritesListing t over old r new =
-    Given t (λ c. writtenAs r new ≡ writtenTo (listing c over) old) (writtenAs r new ≡ record { outcome = WrongTable; size = 0; buffer = old })
+-- an output of the content into a lent buffer: the buffer before, the answer, the buffer after
+abbrev pub Outputs : (Content → List ℕ) → Table → List ℕ → Written → List ℕ → Type 0
+Outputs F t old r new =
+    Given t (λ c. writtenAs r new ≡ writtenTo (F c) old) (writtenAs r new ≡ record { outcome = WrongTable; size = 0; buffer = old })
 
--- for a spreadsheet or for eyes, the buffer before, the answer, the buffer after
+-- with the bytes left over
+abbrev pub WritesListing : Table → ℕ → List ℕ → Written → List ℕ → Type 0
+WritesListing t over = Outputs (λ c. listing c over) t
+
+-- for a spreadsheet or for eyes
 abbrev pub WritesColumns : Table → Bool → List ℕ → Written → List ℕ → Type 0
-WritesColumns t csv old r new =
-    Given t (λ c. writtenAs r new ≡ writtenTo (columns csv c) old) (writtenAs r new ≡ record { outcome = WrongTable; size = 0; buffer = old })
+WritesColumns t csv = Outputs (columns csv) t
+
+abbrev pub WritesSheet : Table → List ℕ → Written → List ℕ → Type 0
+WritesSheet = Outputs sheet
+
+abbrev pub WritesAir : Table → List ℕ → Written → List ℕ → Type 0
+WritesAir = Outputs air

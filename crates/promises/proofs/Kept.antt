@@ -1,5 +1,5 @@
 -- Every table that a function hands back meets the rules in its one stored form, where the given one does. In order: reading a
--- block, a recording, forgetting; the table that holds nothing.
+-- block, a recording, forgetting; loading a sheet; the table that holds nothing.
 use Prim.Native.Nat.{ℕ, _<_}
 use mathlib.Core.Path.{_≡_, ap}
 use mathlib.Core.List.{List, []}
@@ -8,6 +8,7 @@ use Rattle.rules.specs.Family.{forget}
 use Rattle.rules.specs.Collecting.{linkage}
 use Rattle.rules.specs.Outcomes.{readBlock, readRecording}
 use Rattle.rules.proofs.LinkageLaws.{meets-nil, block-keeps, recording-keeps, forget-keeps}
+use Rattle.rules.proofs.SheetLaws.{load-meets}
 use Rattle.table.specs.declared.Table.{Table}
 use Rattle.table.specs.declared.Forgotten.{Forgotten}
 use Rattle.table.specs.Stored.{storeTable, Stored, stored, notStored}
@@ -15,6 +16,8 @@ use Rattle.table.specs.Answers.{forgottenAs}
 use Rattle.reading.specs.declared.Answer.{Answer}
 use Rattle.reading.specs.declared.Recorded.{Recorded}
 use Rattle.reading.specs.Runs.{runAs, recordedAs}
+use Rattle.sheet.specs.declared.Loaded.{Loaded}
+use Rattle.sheet.specs.Loading.{Loads}
 use Rattle.promises.proofs.Contracts.{ReadsBlock, ReadsRecording, Forgets}
 
 pub read-block-keeps : (t : Table) (fib : List ℕ) (r : Answer) → ((i : ℕ) → getD fib i 0 < 256) → Stored t → ReadsBlock t fib r → Stored (r .table)
@@ -31,6 +34,11 @@ pub forget-key-keeps : (t : Table) (k : ℕ) (r : Forgotten) → Stored t → Fo
 unfolding Stored forgottenAs
 forget-key-keeps t k r s (stored c f p a) = (forget linkage k c, forget-keeps k c f, ap (λ (x : Forgotten). x .table) a)
 forget-key-keeps t k r s (notStored n a) = absurd (n s)
+
+-- a loaded table meets them, whatever the bytes
+pub load-sheet-meets : (bytes : List ℕ) (r : Loaded) → Loads bytes r → Stored (r .table)
+unfolding Stored
+load-sheet-meets bytes r a = (a .left, load-meets (a .load), a .stored)
 
 -- the table that holds nothing meets them
 pub empty-meets : (t : Table) → t ≡ storeTable [] → Stored t

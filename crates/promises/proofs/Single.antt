@@ -1,5 +1,6 @@
 -- A contract about a given table admits a single answer. In order: the general law (`given-single`); reading a block, a
--- recording, forgetting, copying out with both buffers, the listing and the columns with their buffer; a test.
+-- recording, forgetting, copying out with both buffers; an output with its buffer (`write-single`), by it the listing, the
+-- columns, the sheet and the blocks for air; loading a sheet; a test.
 use Prim.Native.Nat.{ℕ}
 use mathlib.Core.Path.{_≡_, refl, sym, ap, _∙_}
 use mathlib.Core.Bool.{Bool, true, false}
@@ -7,22 +8,26 @@ use mathlib.Core.List.{List}
 use Rattle.rules.specs.Collecting.{Content}
 use Rattle.rules.specs.Outcomes.{readBlock, copyOut}
 use Rattle.rules.specs.Outcomes as Outcomes
-use Rattle.rules.specs.Air.{writtenTo}
+use Rattle.rules.specs.Air.{air, writtenTo}
 use Rattle.rules.specs.Air as Air
+use Rattle.rules.specs.Sheet.{sheet}
 use Rattle.rules.specs.Listing.{listing}
+use Rattle.rules.proofs.SheetLaws.{load-single}
 use Rattle.lists.specs.Stored.{Tested}
 use Rattle.table.specs.declared.Table.{Table}
 use Rattle.table.specs.declared.Forgotten.{Forgotten}
 use Rattle.table.specs.declared.Copied.{Copied}
-use Rattle.table.specs.Stored.{Stored, Given, stored, notStored}
+use Rattle.table.specs.Stored.{storeTable, Stored, Given, stored, notStored}
 use Rattle.table.specs.Answers.{forgottenAs, copiedAs}
 use Rattle.reading.specs.declared.Answer.{Answer}
 use Rattle.reading.specs.declared.Recorded.{Recorded}
 use Rattle.reading.specs.Runs.{runAs, recordedAs}
 use Rattle.out.specs.declared.Written.{Written}
 use Rattle.out.specs.Answer.{writtenAs}
+use Rattle.sheet.specs.declared.Loaded.{Loaded}
+use Rattle.sheet.specs.Loading.{Loads}
 use Rattle.columns.specs.Columns.{columns}
-use Rattle.promises.proofs.Contracts.{ReadsBlock, ReadsRecording, Forgets, CopiesOut, WritesListing, WritesColumns}
+use Rattle.promises.proofs.Contracts.{ReadsBlock, ReadsRecording, Forgets, CopiesOut, Outputs, WritesListing, WritesColumns, WritesSheet, WritesAir}
 use Rattle.promises.proofs.Injective.{same-content}
 
 -- where an answer is what the content gives, or else one certain thing, two answers are the same
@@ -61,15 +66,32 @@ written-apart : (r q : Written) (a b : List ℕ) → writtenAs r a ≡ writtenAs
 unfolding writtenAs
 written-apart r q a b e = (λ i. record { outcome = e i .outcome; size = e i .size }, ap (λ (w : Air.Written). w .buffer) e)
 
+pub write-single : (F : Content → List ℕ) (t : Table) (old : List ℕ) (r q : Written) (new other : List ℕ)
+    → Outputs F t old r new → Outputs F t old q other → (r ≡ q) × (new ≡ other)
+write-single F t old r q new other a b =
+    written-apart r q new other (given-single t (writtenAs r new) (writtenAs q other) _ (λ c. writtenTo (F c) old) a b)
+
 pub write-listing-single : (t : Table) (over : ℕ) (old : List ℕ) (r q : Written) (new other : List ℕ)
     → WritesListing t over old r new → WritesListing t over old q other → (r ≡ q) × (new ≡ other)
-write-listing-single t over old r q new other a b =
-    written-apart r q new other (given-single t (writtenAs r new) (writtenAs q other) _ (λ c. writtenTo (listing c over) old) a b)
+write-listing-single t over = write-single (λ c. listing c over) t
 
 pub write-columns-single : (t : Table) (csv : Bool) (old : List ℕ) (r q : Written) (new other : List ℕ)
     → WritesColumns t csv old r new → WritesColumns t csv old q other → (r ≡ q) × (new ≡ other)
-write-columns-single t csv old r q new other a b =
-    written-apart r q new other (given-single t (writtenAs r new) (writtenAs q other) _ (λ c. writtenTo (columns csv c) old) a b)
+write-columns-single t csv = write-single (columns csv) t
+
+pub write-sheet-single : (t : Table) (old : List ℕ) (r q : Written) (new other : List ℕ)
+    → WritesSheet t old r new → WritesSheet t old q other → (r ≡ q) × (new ≡ other)
+write-sheet-single = write-single sheet
+
+pub write-air-single : (t : Table) (old : List ℕ) (r q : Written) (new other : List ℕ)
+    → WritesAir t old r new → WritesAir t old q other → (r ≡ q) × (new ≡ other)
+write-air-single = write-single air
+
+pub load-sheet-single : (bytes : List ℕ) (r q : Loaded) → Loads bytes r → Loads bytes q → r ≡ q
+load-sheet-single bytes r q a b =
+    let s = load-single (a .load) (b .load) in
+    let t = a .stored ∙ ap storeTable (s .1) ∙ sym (b .stored) in
+    λ i. record { outcome = s .0 i; table = t i }
 
 -- a test that is sound and complete, as that of the table rules
 pub tested-single : {P : Type 0} (a b : Bool) → Tested a P → Tested b P → a ≡ b

@@ -1,6 +1,6 @@
 -- What writes an output of a table into a lent buffer has a numbered outcome, and every refusal leaves the buffer as it was
 -- (document 01, demand 1): one law over the output; by it the listing, the columns, the sheet and the blocks for air. Last, loading
--- a sheet.
+-- a sheet. What follows from these answers is in Buffers.antt, AirWritten.antt and SheetWritten.antt.
 use Prim.Native.Nat.{ℕ, _≤_, _<_}
 use mathlib.Core.Path.{_≡_, ap, _∙_}
 use mathlib.Core.Bool.{Bool, true}
@@ -8,7 +8,7 @@ use mathlib.Core.List.{List, [], _++_}
 use lib.ListN.{length, drop}
 use lib.Dec.{ltb}
 use borrow.Author.Tests.{ltb-true, ltb-false}
-use Rattle.rules.specs.declared.Outcome.the-variants.{Done, ShortBuffer, WrongTable}
+use Rattle.rules.specs.declared.Outcome.the-variants.{Done, ShortBuffer}
 use Rattle.rules.specs.Collecting.{Content, meets}
 use Rattle.rules.specs.Outcomes.{numberOf, overwritten}
 use Rattle.rules.specs.Air.{air, writtenTo}
@@ -17,15 +17,13 @@ use Rattle.rules.specs.Sheet.{sheet, justShown, Load, accepted, notASheet}
 use Rattle.rules.specs.Listing.{listing}
 use Rattle.rules.proofs.Basics.{cases-bool}
 use Rattle.table.specs.declared.Table.{Table}
-use Rattle.table.specs.Stored.{storeTable, Stored, Given, stored, notStored}
+use Rattle.table.specs.Stored.{storeTable, Stored, stored, notStored}
 use Rattle.out.specs.declared.Written.{Written}
 use Rattle.out.specs.Answer.{writtenAs}
 use Rattle.sheet.specs.declared.Loaded.{Loaded}
-use Rattle.sheet.specs.Writing.{Writes, notWritten}
 use Rattle.sheet.specs.Loading.{Loads}
-use Rattle.air.proofs.Output.{WritesAir}
 use Rattle.columns.specs.Columns.{columns}
-use Rattle.promises.proofs.Contracts.{WritesListing, WritesColumns}
+use Rattle.promises.proofs.Contracts.{Outputs, WritesListing, WritesColumns, WritesSheet, WritesAir}
 
 module _ (F : Content → List ℕ) (t : Table) (old : List ℕ) (r : Written) (new : List ℕ) where
   pub data WriteAnswer : Type 0 where
@@ -37,8 +35,7 @@ module _ (F : Content → List ℕ) (t : Table) (old : List ℕ) (r : Written) (
         → numberOf (r .outcome) ≡ 8 → r .size ≡ 0 → new ≡ old → WriteAnswer
     noTable : (Stored t → ⊥) → numberOf (r .outcome) ≡ 9 → r .size ≡ 0 → new ≡ old → WriteAnswer
 
-  pub write-answers : Given t (λ c. writtenAs r new ≡ writtenTo (F c) old) (writtenAs r new ≡ record { outcome = WrongTable; size = 0; buffer = old })
-      → WriteAnswer
+  pub write-answers : Outputs F t old r new → WriteAnswer
   unfolding writtenAs writtenTo overwritten numberOf
   write-answers (stored c m e p) =
       cases-bool (ltb (length old) (length (F c)))
@@ -53,18 +50,17 @@ module _ (F : Content → List ℕ) (t : Table) (old : List ℕ) (r : Written) (
 
 pub write-listing-answers : (t : Table) (over : ℕ) (old : List ℕ) (r : Written) (new : List ℕ)
     → WritesListing t over old r new → WriteAnswer (λ c. listing c over) t old r new
-write-listing-answers t over old r new w = write-answers (λ c. listing c over) t old r new w
+write-listing-answers t over = write-answers (λ c. listing c over) t
 
 pub write-columns-answers : (t : Table) (csv : Bool) (old : List ℕ) (r : Written) (new : List ℕ)
     → WritesColumns t csv old r new → WriteAnswer (columns csv) t old r new
-write-columns-answers t csv old r new w = write-answers (columns csv) t old r new w
+write-columns-answers t csv = write-answers (columns csv) t
 
-pub write-sheet-answers : (t : Table) (old : List ℕ) (r : Written) (new : List ℕ) → Writes t old r new → WriteAnswer sheet t old r new
-unfolding notWritten
-write-sheet-answers t old r new w = write-answers sheet t old r new w
+pub write-sheet-answers : (t : Table) (old : List ℕ) (r : Written) (new : List ℕ) → WritesSheet t old r new → WriteAnswer sheet t old r new
+write-sheet-answers = write-answers sheet
 
 pub write-air-answers : (t : Table) (old : List ℕ) (r : Written) (new : List ℕ) → WritesAir t old r new → WriteAnswer air t old r new
-write-air-answers t old r new w = write-answers air t old r new w
+write-air-answers = write-answers air
 
 pub data LoadAnswer (bytes : List ℕ) (r : Loaded) : Type 0 where
   -- 0: some table writes these bytes; what it shows is held

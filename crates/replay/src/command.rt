@@ -5,11 +5,10 @@ use crate::answer::is_kept_u8;
 use crate::answer::is_kept_u32;
 use crate::answer::outcome_number;
 use crate::answer::put_head;
-use crate::line::begins;
 use crate::line::bytes_at;
 use crate::line::count_at;
-use crate::line::is_letter;
 use crate::line::key_at;
+use crate::line::letter_of;
 use crate::line::place_of;
 use crate::spoil;
 use lists::least;
@@ -18,8 +17,6 @@ use out::put;
 use out::put_bytes;
 use table::Copied;
 use table::Table;
-ghost use mathlib.Core.Path.{_≡_};
-ghost use lib.ListN.{length};
 
 // What becomes of the table after a command: it is the one that the command leaves, and with Mark the
 // one before is remembered; with Back it is the remembered one, if there is any.
@@ -53,7 +50,7 @@ fn answer_block(table: Table, line: &[u8], len: usize, out: &mut [u8]) -> Step {
     if !given.good {
         return unknown(table, out);
     }
-    let n = least(given.count, 64);
+    let n = least(given.value, 64);
     let read = reading::read_block(table, &bytes[0..n]);
     let outcome = read.outcome;
     let notes = read.notes;
@@ -139,8 +136,8 @@ fn answer_copy(table: Table, line: &[u8], len: usize, out: &mut [u8]) -> Step {
     let size = put_copied(
         table,
         key.key,
-        n.count,
-        m.count,
+        n.value,
+        m.value,
         &mut numbers,
         &mut kinds,
         out,
@@ -162,69 +159,46 @@ fn put_written(out: &mut [u8], letter: u8, written: Written, bytes: &[u8]) -> us
     answer::put_kept(out, q, is_kept_u8(bytes, from))
 }
 
-// Writes for air into the first `n` places of this buffer, and answers it.
-fn put_air(table: Table, n: usize, bytes: &mut [u8], out: &mut [u8]) -> usize {
+// Writes for air, or else the sheet, into the first `n` places of this buffer.
+fn write_as(table: Table, letter: u8, n: usize, bytes: &mut [u8]) -> Written {
     let n = least(n, bytes.len());
-    let written = air::write_air(table, &mut bytes[0..n]);
-    put_written(out, b'a', written, bytes)
+    if letter == b'a' {
+        air::write_air(table, &mut bytes[0..n])
+    } else {
+        sheet::write_sheet(table, &mut bytes[0..n])
+    }
 }
 
-// Room for what a table is written as for air.
-fn air_buffer() -> [u8; 140000]
-    ensures { λ r. ⌜ 140000 ≡ length r ⌝ }
-{
-    [0xAA; 140000]
-}
-
-// `a N` writes for air.
-fn answer_air(table: Table, line: &[u8], len: usize, out: &mut [u8]) -> Step {
-    let n = count_at(line, 2, len, 140000);
+// `a N` writes for air, and `s N` the sheet, into a buffer of at most this size.
+fn answer_output(
+    table: Table,
+    letter: u8,
+    most: usize,
+    line: &[u8],
+    len: usize,
+    out: &mut [u8],
+) -> Step {
+    let n = count_at(line, 2, len, most);
     if !n.good {
         return unknown(table, out);
     }
-    let mut bytes = air_buffer();
+    let mut bytes = [0xAAu8; 140000];
+    let written = write_as(table, letter, n.value, &mut bytes);
     Step {
         table,
         next: Next::Go,
-        size: put_air(table, n.count, &mut bytes, out),
+        size: put_written(out, letter, written, &bytes),
     }
 }
 
-// Writes the sheet into the first `n` places of this buffer, and answers it.
-fn put_sheet(table: Table, n: usize, bytes: &mut [u8], out: &mut [u8]) -> usize {
-    let n = least(n, bytes.len());
-    let written = sheet::write_sheet(table, &mut bytes[0..n]);
-    put_written(out, b's', written, bytes)
-}
-
-// Room for a sheet.
-fn sheet_buffer() -> [u8; 32768]
-    ensures { λ r. ⌜ 32768 ≡ length r ⌝ }
-{
-    [0xAA; 32768]
-}
-
-// `s N` writes the sheet.
-fn answer_sheet(table: Table, line: &[u8], len: usize, out: &mut [u8]) -> Step {
-    let n = count_at(line, 2, len, 32768);
-    if !n.good {
-        return unknown(table, out);
-    }
-    let mut bytes = sheet_buffer();
-    Step {
-        table,
-        next: Next::Go,
-        size: put_sheet(table, n.count, &mut bytes, out),
-    }
-}
-
-// Loads the bytes of a line by way of this buffer.
-fn load_line(table: Table, line: &[u8], len: usize, bytes: &mut [u8], out: &mut [u8]) -> Step {
-    let given = bytes_at(line, len, bytes);
+// `l HH..` loads a sheet.
+fn answer_load(table: Table, line: &[u8], len: usize, out: &mut [u8]) -> Step {
+    let mut bytes = [0u8; 32768];
+    let given = bytes_at(line, len, &mut bytes);
     if !given.good {
         return unknown(table, out);
     }
-    let n = least(given.count, bytes.len());
+    let n = least(given.value, 32768);
     let loaded = sheet::load_sheet(&bytes[0..n]);
     let outcome = loaded.outcome;
     let left = loaded.table;
@@ -235,19 +209,13 @@ fn load_line(table: Table, line: &[u8], len: usize, bytes: &mut [u8], out: &mut 
     }
 }
 
-// `l HH..` loads a sheet.
-fn answer_load(table: Table, line: &[u8], len: usize, out: &mut [u8]) -> Step {
-    let mut bytes = sheet_buffer();
-    load_line(table, line, len, &mut bytes, out)
-}
-
 // `x N` spoils the table.
 fn answer_spoil(table: Table, line: &[u8], len: usize, out: &mut [u8]) -> Step {
     let way = count_at(line, 2, len, 16);
-    if !way.good || way.count == 0 {
+    if !way.good || way.value == 0 {
         return unknown(table, out);
     }
-    let spoilt = spoil::spoil(table, way.count);
+    let spoilt = spoil::spoil(table, way.value);
     let left = spoilt.table;
     if spoilt.done {
         Step {
@@ -265,55 +233,57 @@ fn answer_spoil(table: Table, line: &[u8], len: usize, out: &mut [u8]) -> Step {
 }
 
 // The commands with arguments; `b` and `l` may stand alone.
-fn answer_words(table: Table, line: &[u8], len: usize, out: &mut [u8]) -> Step {
-    if begins(line, len, b'b') {
-        answer_block(table, line, len, out)
-    } else if begins(line, len, b'f') {
-        answer_forget(table, line, len, out)
-    } else if begins(line, len, b'c') {
-        answer_copy(table, line, len, out)
-    } else if begins(line, len, b'a') {
-        answer_air(table, line, len, out)
-    } else if begins(line, len, b's') {
-        answer_sheet(table, line, len, out)
-    } else if begins(line, len, b'l') {
-        answer_load(table, line, len, out)
-    } else if begins(line, len, b'x') {
-        answer_spoil(table, line, len, out)
-    } else {
-        unknown(table, out)
+fn answer_words(table: Table, letter: u8, line: &[u8], len: usize, out: &mut [u8]) -> Step {
+    match letter {
+        b'b' => answer_block(table, line, len, out),
+        b'f' => answer_forget(table, line, len, out),
+        b'c' => answer_copy(table, line, len, out),
+        b'a' => answer_output(table, letter, 140000, line, len, out),
+        b's' => answer_output(table, letter, 32768, line, len, out),
+        b'l' => answer_load(table, line, len, out),
+        b'x' => answer_spoil(table, line, len, out),
+        _ => unknown(table, out),
+    }
+}
+
+// The commands of a letter alone.
+fn answer_letter(table: Table, letter: u8, line: &[u8], out: &mut [u8]) -> Step {
+    match letter {
+        b'e' => Step {
+            table: Table::empty(),
+            next: Next::Go,
+            size: answer::put_letter(out, b'e'),
+        },
+        b't' => Step {
+            table,
+            next: Next::Go,
+            size: answer::put_table(out, table),
+        },
+        b'u' => Step {
+            table,
+            next: Next::Back,
+            size: answer::put_letter(out, b'u'),
+        },
+        _ => answer_words(table, letter, line, 1, out),
     }
 }
 
 // The answer to a line of this length: nothing to an empty one, and too long above 65,536.
 pub(crate) fn answer_line(table: Table, line: &[u8], len: usize, out: &mut [u8]) -> Step {
     if len == 0 {
-        Step {
+        return Step {
             table,
             next: Next::Go,
             size: 0,
-        }
-    } else if 65536 < len {
-        unknown(table, out)
-    } else if is_letter(line, len, b'e') {
-        Step {
-            table: Table::empty(),
-            next: Next::Go,
-            size: answer::put_letter(out, b'e'),
-        }
-    } else if is_letter(line, len, b't') {
-        Step {
-            table,
-            next: Next::Go,
-            size: answer::put_table(out, table),
-        }
-    } else if is_letter(line, len, b'u') {
-        Step {
-            table,
-            next: Next::Back,
-            size: answer::put_letter(out, b'u'),
-        }
+        };
+    }
+    if 65536 < len {
+        return unknown(table, out);
+    }
+    let letter = letter_of(line, len);
+    if len == 1 {
+        answer_letter(table, letter, line, out)
     } else {
-        answer_words(table, line, len, out)
+        answer_words(table, letter, line, len, out)
     }
 }

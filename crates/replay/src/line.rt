@@ -2,6 +2,7 @@
 // place of any line; what lies past the line's end counts as not there.
 use lists::least;
 ghost use Prim.Native.Nat.{_≤_};
+ghost use mathlib.Core.Path.{_≡_};
 ghost use lib.ListN.{length};
 
 // The first place from `from` on, before `to`, where this byte stands; or `to`, or the line's end.
@@ -19,30 +20,17 @@ pub(crate) fn place_of(line: &[u8], from: usize, to: usize, byte: u8) -> usize
     i
 }
 
-// Whether a line of this length is this letter alone.
-pub(crate) fn is_letter(line: &[u8], len: usize, letter: u8) -> bool {
-    if len != 1 {
-        return false;
-    }
-    if line.len() == 0 {
-        return false;
-    }
-    line[0] == letter
-}
-
-// Whether a line of this length begins with this letter, with nothing or a blank after it.
-pub(crate) fn begins(line: &[u8], len: usize, letter: u8) -> bool {
+// The letter that a line of this length begins with, with nothing or a blank after it; 0 where there is
+// none.
+pub(crate) fn letter_of(line: &[u8], len: usize) -> u8 {
     let end = least(len, line.len());
     if end == 0 {
-        return false;
-    }
-    if line[0] != letter {
-        return false;
+        return 0;
     }
     if end == 1 {
-        return true;
+        return line[0];
     }
-    line[1] == 32
+    if line[1] == 32 { line[0] } else { 0 }
 }
 
 // What a hexadecimal digit says, capital or small; 16 where it is none.
@@ -66,144 +54,111 @@ pub(crate) fn digit_of(byte: u8) -> u32
     }
 }
 
+// A number of a line, and whether it is one.
+pub struct Number {
+    pub good: bool,
+    pub value: usize,
+}
+
+impl Number {
+    // None.
+    fn none() -> Self
+        ensures { λ r. ⌜ r .value ≡ 0 ⌝ }
+    {
+        Number {
+            good: false,
+            value: 0,
+        }
+    }
+}
+
+// A number with one more digit after it, in base 16 or else 10. The remainder cuts nothing off at eight
+// digits and at ten, and shows that the product fits.
+fn with_digit(number: usize, base: u32, digit: u32) -> usize {
+    let high = number % 1000000000;
+    if base == 16 {
+        high * 16 + digit as usize
+    } else {
+        high * 10 + digit as usize
+    }
+}
+
+// The number that the digits from `from` to `to` say in this base, 16 or 10, if there are at least one
+// and at most so many of them, and it is at most `most`.
+fn number_at(line: &[u8], from: usize, to: usize, base: u32, digits: usize, most: usize) -> Number
+    ensures { λ r. ⌜ r .value ≤ most ⌝ }
+{
+    let end = least(to, line.len());
+    if end <= from {
+        return Number::none();
+    }
+    if digits < end - from {
+        return Number::none();
+    }
+    let mut number = 0usize;
+    let mut i = from;
+    while i < end {
+        let digit = digit_of(line[i]);
+        if base <= digit {
+            return Number::none();
+        }
+        number = with_digit(number, base, digit);
+        i += 1;
+    }
+    if most < number {
+        return Number::none();
+    }
+    Number {
+        good: true,
+        value: number,
+    }
+}
+
+// The count that 1 to 10 decimal digits from `from` to `to` say, if it is at most `most`.
+pub(crate) fn count_at(line: &[u8], from: usize, to: usize, most: usize) -> Number
+    ensures { λ r. ⌜ r .value ≤ most ⌝ }
+{
+    number_at(line, from, to, 10, 10, most)
+}
+
 // A key of a line, and whether it is one.
 pub struct Key {
     pub good: bool,
     pub key: u32,
 }
 
-// The key that 1 to 8 hexadecimal digits from `from` to `to` say. The remainder cuts nothing off at
-// eight digits, and shows that the product fits.
+// The key that 1 to 8 hexadecimal digits from `from` to `to` say.
 pub(crate) fn key_at(line: &[u8], from: usize, to: usize) -> Key {
-    let end = least(to, line.len());
-    if end <= from {
-        return Key {
-            good: false,
-            key: 0,
-        };
+    let number = number_at(line, from, to, 16, 8, 4294967295);
+    Key {
+        good: number.good,
+        key: number.value as u32,
     }
-    if 8 < end - from {
-        return Key {
-            good: false,
-            key: 0,
-        };
-    }
-    let mut key = 0u32;
-    let mut i = from;
-    while i < end {
-        let digit = digit_of(line[i]);
-        if 16 <= digit {
-            return Key {
-                good: false,
-                key: 0,
-            };
-        }
-        key = key % 268435456 * 16 + digit;
-        i += 1;
-    }
-    Key { good: true, key }
-}
-
-// A count of a line, and whether it is one.
-pub struct Count {
-    pub good: bool,
-    pub count: usize,
-}
-
-// The count that 1 to 10 decimal digits from `from` to `to` say, if it is at most `most`. The
-// remainder cuts nothing off at ten digits.
-pub(crate) fn count_at(line: &[u8], from: usize, to: usize, most: usize) -> Count
-    ensures { λ r. ⌜ r .count ≤ most ⌝ }
-{
-    let end = least(to, line.len());
-    if end <= from {
-        return Count {
-            good: false,
-            count: 0,
-        };
-    }
-    if 10 < end - from {
-        return Count {
-            good: false,
-            count: 0,
-        };
-    }
-    let mut count = 0usize;
-    let mut i = from;
-    while i < end {
-        let digit = digit_of(line[i]);
-        if 10 <= digit {
-            return Count {
-                good: false,
-                count: 0,
-            };
-        }
-        count = count % 1000000000 * 10 + digit as usize;
-        i += 1;
-    }
-    if most < count {
-        return Count {
-            good: false,
-            count: 0,
-        };
-    }
-    Count { good: true, count }
-}
-
-// The byte that the two hexadecimal digits at a place say; 256 where they are not there before `to`.
-fn byte_at(line: &[u8], at: usize, to: usize) -> u32
-    ensures { λ r. ⌜ r ≤ 256 ⌝ }
-{
-    let end = least(to, line.len());
-    if end <= at {
-        return 256;
-    }
-    if end - at < 2 {
-        return 256;
-    }
-    let high = digit_of(line[at]);
-    let low = digit_of(line[at + 1]);
-    if 16 <= high {
-        return 256;
-    }
-    if 16 <= low {
-        return 256;
-    }
-    high * 16 + low
 }
 
 // The bytes that the line's second word says in hexadecimal, to the front of a buffer, and how many.
 // Good where there is no second word, or an even number of digits, at least two, whose bytes fit.
-pub(crate) fn bytes_at(line: &[u8], len: usize, bytes: &mut [u8]) -> Count {
+pub(crate) fn bytes_at(line: &[u8], len: usize, bytes: &mut [u8]) -> Number {
     let end = least(len, line.len());
     if end == 2 {
-        return Count {
-            good: false,
-            count: 0,
-        };
+        return Number::none();
     }
     let mut i = 2;
     let mut n = 0;
     while i < end {
-        let byte = byte_at(line, i, end);
-        if 256 <= byte {
-            return Count {
-                good: false,
-                count: 0,
-            };
+        let byte = number_at(line, i, i + 2, 16, 2, 255);
+        if !byte.good || end < i + 2 {
+            return Number::none();
         }
         if bytes.len() <= n {
-            return Count {
-                good: false,
-                count: 0,
-            };
+            return Number::none();
         }
-        bytes[n] = byte as u8;
+        bytes[n] = byte.value as u8;
         n += 1;
         i += 2;
     }
-    Count {
+    Number {
         good: true,
-        count: n,
+        value: n,
     }
 }

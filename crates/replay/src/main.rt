@@ -7,22 +7,62 @@ mod line;
 mod spoil;
 
 use command::Next;
+use command::Step;
 use command::answer_line;
 use libc::STDIN_FILENO;
 use libc::STDOUT_FILENO;
 use line::place_of;
 use out::put_bytes;
 use table::Table;
-ghost use mathlib.Core.Path.{_≡_};
-ghost use lib.ListN.{length};
 
 // Where the input stands: the place in the chunk, how much of the chunk was read, the length of the
-// line that was gathered, and whether the input is over.
+// line so far, whether that is the whole line, and whether the input is over.
 struct Place {
     at: usize,
     got: usize,
     len: usize,
+    whole: bool,
     over: bool,
+}
+
+// The table, the remembered one, whether any was remembered, and whether the run is over.
+struct State {
+    table: Table,
+    before: Table,
+    marked: bool,
+    over: bool,
+}
+
+// What a command leaves of the tables.
+fn state_after(state: State, step: Step, over: bool) -> State {
+    let marked = state.marked;
+    let before = state.before;
+    let table = state.table;
+    let left = step.table;
+    let next = step.next;
+    match next {
+        Next::Go => State {
+            table: left,
+            before,
+            marked,
+            over,
+        },
+        Next::Mark => State {
+            table: left,
+            before: table,
+            marked: true,
+            over,
+        },
+        Next::Back => {
+            let back = if marked { before } else { table };
+            State {
+                table: back,
+                before,
+                marked,
+                over,
+            }
+        }
+    }
 }
 
 // The bytes of the chunk from `from` to `to` at the end of the line; what does not fit is left out.
@@ -49,43 +89,29 @@ fn refill(chunk: &mut [u8], at: usize, got: usize) -> Rest {
     Rest { at: 0, got: more }
 }
 
-// Gathers the next line. A proved loop has to end, and nothing says that the input does: so it counts
-// its turns down, from a number that no run uses up.
-fn next_line(chunk: &mut [u8], line: &mut [u8], place: Place) -> Place {
-    let mut at = place.at;
-    let mut got = place.got;
-    let mut len = 0;
-    let mut turns = u64::MAX;
-    while turns > 0 {
-        turns -= 1;
-        let rest = refill(chunk, at, got);
-        at = rest.at;
-        got = rest.got;
-        if got <= at {
-            return Place {
-                at,
-                got,
-                len,
-                over: true,
-            };
+// Gathers what the chunk, or the next one, has of a line: of a new one, after a whole line.
+fn next_piece(chunk: &mut [u8], line: &mut [u8], place: Place) -> Place {
+    let rest = refill(chunk, place.at, place.got);
+    let end = place_of(chunk, rest.at, rest.got, 10);
+    let before = if place.whole { 0 } else { place.len };
+    let len = gather(line, before, chunk, rest.at, end);
+    let over = rest.got <= rest.at;
+    if end < rest.got {
+        Place {
+            at: end + 1,
+            got: rest.got,
+            len,
+            whole: true,
+            over,
         }
-        let end = place_of(chunk, at, got, 10);
-        len = gather(line, len, chunk, at, end);
-        if end < got {
-            return Place {
-                at: end + 1,
-                got,
-                len,
-                over: false,
-            };
+    } else {
+        Place {
+            at: end,
+            got: rest.got,
+            len,
+            whole: over,
+            over,
         }
-        at = end;
-    }
-    Place {
-        at,
-        got,
-        len,
-        over: true,
     }
 }
 
@@ -97,66 +123,50 @@ fn write_out(out: &[u8], size: usize) -> bool {
     io::write_all(STDOUT_FILENO, &out[0..size])
 }
 
-// Answers line after line, until the input is over or an answer cannot be written. The turns are
-// counted as in next_line.
+// Answers a line that is whole. The run is over with the input, or where the answer cannot be written.
+fn answer_whole(state: State, line: &[u8], place: Place, out: &mut [u8]) -> State {
+    if !place.whole {
+        return state;
+    }
+    let table = state.table;
+    let step = answer_line(table, line, place.len, out);
+    let written = write_out(out, step.size);
+    state_after(state, step, place.over || !written)
+}
+
+// Answers line after line. A proved loop has to end, and nothing says that the input does: so it counts
+// its turns down, from a number that no run uses up.
 fn run(chunk: &mut [u8], line: &mut [u8], out: &mut [u8]) {
-    let mut table = Table::empty();
-    let mut before = table;
-    let mut marked = false;
+    let empty = Table::empty();
+    let mut state = State {
+        table: empty,
+        before: empty,
+        marked: false,
+        over: false,
+    };
     let mut place = Place {
         at: 0,
         got: 0,
         len: 0,
+        whole: false,
         over: false,
     };
     let mut turns = u64::MAX;
     while turns > 0 {
         turns -= 1;
-        place = next_line(chunk, line, place);
-        let step = answer_line(table, line, place.len, out);
-        if !write_out(out, step.size) {
+        place = next_piece(chunk, line, place);
+        state = answer_whole(state, line, place, out);
+        if state.over {
             return;
-        }
-        if place.over {
-            return;
-        }
-        let left = step.table;
-        let next = step.next;
-        match next {
-            Next::Go => {
-                table = left;
-            }
-            Next::Mark => {
-                before = table;
-                marked = true;
-                table = left;
-            }
-            Next::Back => {
-                if marked {
-                    table = before;
-                }
-            }
         }
     }
 }
 
-// Room for a line and a few bytes more, which tell one that is too long.
-fn line_buffer() -> [u8; 65540]
-    ensures { λ r. ⌜ 65540 ≡ length r ⌝ }
-{
-    [0; 65540]
-}
-
-// Room for the longest answer, twice the bytes of a table written for air.
-fn answer_buffer() -> [u8; 300000]
-    ensures { λ r. ⌜ 300000 ≡ length r ⌝ }
-{
-    [0; 300000]
-}
-
+// The line has a few bytes more than it may be long, which tell one that is too long; the longest answer
+// is twice the bytes of a table written for air.
 fn main() {
     let mut chunk = io::large_buffer();
-    let mut line = line_buffer();
-    let mut out = answer_buffer();
+    let mut line = [0u8; 65540];
+    let mut out = [0u8; 300000];
     run(&mut chunk, &mut line, &mut out);
 }

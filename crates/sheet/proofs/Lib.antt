@@ -1,5 +1,5 @@
 -- The laws that the proofs of the functions lean on: writing (Groups, Writes), loading (Numbers, Tests, Heads, Stores,
--- Pairs, Sets, Loads), and what the two promise (Contents, Promises).
+-- Pairs, Sets, Loads), and that a table stores one content (Contents).
 pub mod Groups
 pub mod Writes
 pub mod Numbers
@@ -10,4 +10,3 @@ pub mod Pairs
 pub mod Sets
 pub mod Loads
 pub mod Contents
-pub mod Promises
