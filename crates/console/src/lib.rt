@@ -5,6 +5,7 @@ use libc::STDERR_FILENO;
 use libc::STDIN_FILENO;
 use libc::STDOUT_FILENO;
 use reading::Recorded;
+use sheet::Loaded;
 use table::Table;
 
 // The chunk is a multiple of a block and is filled before it is read, so that only the last chunk can
@@ -68,6 +69,14 @@ pub fn receive() -> Received
     }
 }
 
+// Reads standard input as a sheet: its table, or outcome 10 and the empty table. A sheet has at most 24,801 bytes: with room
+// for one more, a longer input is refused as it should be.
+pub fn receive_sheet() -> Loaded {
+    let mut bytes = [0u8; 24802];
+    let n = io::read_full(STDIN_FILENO, &mut bytes);
+    sheet::load_sheet(&bytes[..n])
+}
+
 // Writes the first n bytes of an output to an open file; nothing where there are fewer.
 fn write_front(file: i32, out: &[u8], n: usize) {
     if n <= out.len() {
@@ -89,4 +98,9 @@ pub fn tell_rest(rest: usize) {
         let n = out::put_bytes(&mut line, q, b" bytes at the end is no block\n");
         write_front(STDERR_FILENO, &line, n);
     }
+}
+
+// Says on standard error that the input was no sheet.
+pub fn tell_no_sheet() {
+    io::write_all(STDERR_FILENO, b"not a sheet (10)\n");
 }
