@@ -4,15 +4,15 @@ use Prim.Native.Nat.{ℕ, zero, suc, _+_, _-_, _*_, _/_, _%_, _^_, _≤_}
 use native.Mathlib.Nat.{le-of-suc-le-suc, mul-suc, pow-suc}
 use native.Mathlib.Omega.{arith}
 use mathlib.Core.Path.{_≡_, refl, sym, ap, _∙_}
-use mathlib.Core.Bool.{Bool, false, not}
+use mathlib.Core.Bool.{Bool, not}
 use mathlib.Core.List.{List, [], _∷_, _++_, append-assoc, append-nil}
-use lib.ListN.{length, take, drop, set, replicate, length-replicate, length-append, drop-of-length-le}
+use lib.ListN.{length, take, drop, set, replicate, length-append, drop-of-length-le}
 use lib.Pow.{pow-add}
 use lib.Dec.{eqb}
 use lib.Seq.{slice, length-slice, take-append-add, sets-eq}
 use Rattle.rules.specs.Block.{bit, checkOf}
 use Rattle.rules.specs.Collecting.{keyWidth}
-use Rattle.rules.specs.Air.{Piece, pieceMost, allBytes, fieldBytes, figBytes, blockOf}
+use Rattle.rules.specs.Air.{allBytes, fieldBytes, figBytes, blockOf}
 use Rattle.rules.proofs.AirBlock.{all-length, fig-length}
 use Rattle.out.specs.Put.{Puts}
 use Rattle.out.proofs.Runs.{puts-length, puts-then}
@@ -25,17 +25,6 @@ pub eight-bits : (k : ℕ) → 2 ^ (8 * k) ≡ 256 ^ k
 eight-bits zero = refl
 eight-bits (suc k) =
     ap (λ (m : ℕ). 2 ^ m) (mul-suc 8 k) ∙ pow-add 2 (8 * k) 8 ∙ ap (λ (m : ℕ). m * 256) (eight-bits k) ∙ sym (pow-suc 256 k)
-
--- the identifiers of a piece have 24 bytes at most
-pub few-bytes : (key n : ℕ) → n ≤ pieceMost (keyWidth key) → n * keyWidth key ≤ 24
-unfolding figBytes fieldBytes
-few-bytes key n h =
-    let ns : List ℕ = replicate n 0 in
-    let l : length ns ≡ n = length-replicate n 0 in
-    let c : Piece = record { more = false; qualifier = 0; numbers = ns } in
-    let f : length (figBytes key false c) ≤ 29 = fig-length key false c (rw l h) in
-    let a : length (allBytes (keyWidth key) ns) ≡ n * keyWidth key = all-length (keyWidth key) ns ∙ rw l in
-    omega arith
 
 -- the FIG of a piece, byte by byte
 pub fig-made : (key : ℕ) (on : Bool) (p : Part) (ns : List ℕ) (w count more state : ℕ) → w ≡ keyWidth key → count ≡ p .to - p .from → p .to ≤ length ns

@@ -5,7 +5,7 @@ use native.Mathlib.Omega.{arith}
 use mathlib.Core.Path.{_≡_, refl, sym, ap, _∙_}
 use mathlib.Core.Bool.{Bool, true}
 use mathlib.Core.List.{List, [], _∷_, _++_, append-assoc}
-use lib.ListN.{length, getD, take, length-append}
+use lib.ListN.{length, getD, take}
 use lib.Dec.{eqb}
 use borrow.Author.Tests.{eqb-true, eqb-false}
 use Rattle.rules.specs.declared.Outcome.the-variants.{Done, ShortBuffer, WrongTable}
@@ -13,14 +13,14 @@ use Rattle.rules.specs.Field.{Pair}
 use Rattle.rules.specs.Collecting.{IdSet, Content, meets, keyWidth}
 use Rattle.rules.specs.Air.{Piece, pieceMost, cut, deadLink, pieces, figBytes, blockOf, blocksOf, setBlocks, allBlocks, air, writtenTo}
 use Rattle.rules.proofs.Basics.{cases-bool}
-use Rattle.rules.proofs.AirBlock.{block-length}
+use Rattle.rules.proofs.AirReadBack.{blocks-length}
+use Rattle.rules.proofs.TableRules.{table-rules}
 use Rattle.lists.specs.declared.IdList.{IdList}
 use Rattle.lists.specs.Stored.{paired, pairsIn, Holds}
 use Rattle.lists.proofs.StoredLaws.{holds-facts}
 use Rattle.table.specs.declared.Table.{Table}
 use Rattle.table.specs.Stored.{storeTable, past, Stored, Given, stored, notStored}
 use Rattle.table.specs.Shown.{setIn, shownAs, setsFrom, setsIn}
-use Rattle.table.proofs.TableLaws.{meets-facts}
 use Rattle.table.proofs.ShownLaws.{shownAt, sets-skip, sets-next, sets-end, sets-stored}
 use Rattle.out.specs.declared.Written.{Written}
 use Rattle.out.specs.Put.{Puts}
@@ -34,12 +34,6 @@ pub blocks-append : (k : ℕ) (on : Bool) (cs ds : List Piece) → blocksOf k on
 unfolding blocksOf
 blocks-append k on [] ds = refl
 blocks-append k on (c ∷ cs) ds = rw (blocks-append k on cs ds) (sym (append-assoc (blockOf (figBytes k on c)) (blocksOf k on cs) (blocksOf k on ds)))
-
-blocks-length : (k : ℕ) (on : Bool) (cs : List Piece) → length (blocksOf k on cs) ≡ 32 * length cs
-unfolding blocksOf
-blocks-length k on [] = refl
-blocks-length k on (c ∷ cs) =
-    omega (arith, length-append (blockOf (figBytes k on c)) (blocksOf k on cs), block-length (figBytes k on c), blocks-length k on cs)
 
 pub set-size : (k : ℕ) (on : Bool) (l : IdList) → length (setBlocks (shownAs k on l)) ≡ 32 * length (pieces (pieceMost (keyWidth k)) (setIn l))
 unfolding setBlocks shownAs
@@ -96,7 +90,7 @@ blocks-all t n =
 pub air-of : (t : Table) (c : Content) → meets c ≡ true → t ≡ storeTable c → allBlocks (setsFrom t 0 (t .count)) ≡ air c
 unfolding setsIn storeTable air
 air-of t c m e =
-    let k : t .count ≡ min (t .count) 32 = omega (arith, ap (λ (x : Table). x .count) e, meets-facts c m .short) in
+    let k : t .count ≡ min (t .count) 32 = omega (arith, ap (λ (x : Table). x .count) e, table-rules c .0 m .short) in
     ap (λ (n : ℕ). allBlocks (setsFrom t 0 n)) k ∙ ap allBlocks (ap setsIn e ∙ sets-stored c m)
 
 -- ---- the answer

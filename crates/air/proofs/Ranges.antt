@@ -17,7 +17,7 @@ use Rattle.rules.specs.Collecting.{pairsMeet, kindNamed}
 use Rattle.rules.specs.Outcomes.{numberIn, kindIn}
 use Rattle.rules.specs.Air.{Piece, goesOn, pieceWith, completed, chop, cut}
 use Rattle.rules.proofs.Basics.{cases-bool, and-left, and-right, and-both, true-false}
-use Rattle.rules.proofs.AirBlock.{kind-small}
+use Rattle.rules.proofs.TableRules.{kind-small}
 use Rattle.air.specs.declared.Part.{Part}
 use Rattle.air.specs.Parts.{run, qualifierAt, partAt, pieceIn}
 use Rattle.air.proofs.Lists.{slice-add, take-min, take-map, drop-map, run-short}

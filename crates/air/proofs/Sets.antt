@@ -1,43 +1,28 @@
 -- The set that stands in a list's arrays. In order: its kinds and numbers; the pieces from a place on, by ranges of the arrays;
 -- what a range of a list that meets the rules fits; how many pieces there are; dead links.
-use Prim.Native.Nat.{ℕ, zero, suc, _+_, _/_, _%_, _≤_, _<_}
+use Prim.Native.Nat.{ℕ, _+_, _/_, _%_, _≤_, _<_}
 use native.Mathlib.Omega.{arith}
-use mathlib.Core.Path.{_≡_, refl, sym, ap, _∙_, subst}
+use mathlib.Core.Path.{_≡_, sym, ap, _∙_, subst}
 use mathlib.Core.Bool.{Bool, true, false, not, _&&_}
 use mathlib.Core.List.{List, [], _∷_, _++_, map}
 use lib.ListN.{length, getD, take, drop, length-take, length-append}
 use lib.Seq.{slice, slice-empty, take-take}
 use lib.Dec.{eqb}
 use Rattle.rules.specs.Block.{bit}
-use Rattle.rules.specs.Field.{Pair, pair, rds, drm}
+use Rattle.rules.specs.Field.{Pair, rds, drm}
 use Rattle.rules.specs.Collecting.{IdSet, keyWidth}
 use Rattle.rules.specs.Outcomes.{numberIn, kindIn}
 use Rattle.rules.specs.Air.{cut, hasKind, deadLink, pieces, pieceMost}
 use Rattle.rules.proofs.Basics.{cases-bool}
 use Rattle.rules.proofs.AirPieces.{most-room}
 use Rattle.lists.specs.declared.IdList.{IdList}
-use Rattle.lists.specs.Stored.{paired, pairsIn, Holds}
+use Rattle.lists.specs.Stored.{Holds}
 use Rattle.lists.proofs.Pairs.{length-pairs-in}
-use Rattle.lists.proofs.StoredLaws.{Facts, holds-facts}
+use Rattle.lists.proofs.StoredLaws.{Facts, holds-facts, kinds-of-pairs, numbers-of-pairs}
 use Rattle.table.specs.Shown.{setIn}
 use Rattle.air.specs.declared.Part.{Part}
 use Rattle.air.specs.Parts.{partAt, pieceIn, Fitting}
 use Rattle.air.proofs.Ranges.{left, left-next, left-end, range-ahead, range-inside, range-few, range-kind, kinds-small}
-
-kinds-of : (ks ns : List ℕ) (len : ℕ) → length ks ≡ length ns → map kindIn (pairsIn ks ns len) ≡ take len ks
-unfolding pairsIn paired kindIn pair
-kinds-of ks ns zero e = refl
-kinds-of [] ns (suc len) e = refl
-kinds-of (k ∷ ks) [] (suc len) e = absurd (omega arith)
-kinds-of (k ∷ ks) (n ∷ ns) (suc len) e = ap (λ (r : List ℕ). k ∷ r) (kinds-of ks ns len (omega arith))
-
-numbers-of : (ks ns : List ℕ) (len : ℕ) → length ks ≡ length ns → map numberIn (pairsIn ks ns len) ≡ take len ns
-unfolding pairsIn paired numberIn pair
-numbers-of ks ns zero e = refl
-numbers-of [] [] (suc len) e = refl
-numbers-of [] (n ∷ ns) (suc len) e = absurd (omega arith)
-numbers-of (k ∷ ks) [] (suc len) e = absurd (omega arith)
-numbers-of (k ∷ ks) (n ∷ ns) (suc len) e = ap (λ (r : List ℕ). n ∷ r) (numbers-of ks ns len (omega arith))
 
 -- a range of a list's arrays is the next piece
 pub record Turn (most : ℕ) (l : IdList) (from : ℕ) (p : Part) : Type 0 where
@@ -53,11 +38,11 @@ module _ (l : IdList) (numbers-long : length (l .numbers) ≡ 128) (kinds-long :
 
   set-kinds : map kindIn (setIn l .items) ≡ take (l .len) (l .kinds)
   unfolding setIn
-  set-kinds = kinds-of (l .kinds) (l .numbers) (l .len) (kinds-long ∙ sym numbers-long)
+  set-kinds = kinds-of-pairs (l .kinds) (l .numbers) (l .len) (kinds-long ∙ sym numbers-long)
 
   set-numbers : map numberIn (setIn l .items) ≡ take (l .len) (l .numbers)
   unfolding setIn
-  set-numbers = numbers-of (l .kinds) (l .numbers) (l .len) (kinds-long ∙ sym numbers-long)
+  set-numbers = numbers-of-pairs (l .kinds) (l .numbers) (l .len) (kinds-long ∙ sym numbers-long)
 
   kinds-length : length (take (l .len) (l .kinds)) ≡ l .len
   kinds-length = length-take (l .len) (l .kinds) ∙ omega arith

@@ -13,9 +13,9 @@ use Rattle.rules.specs.Field.{Pair, dab, rds, drm}
 use Rattle.rules.specs.Collecting.{Shown, keyWidth}
 use Rattle.rules.specs.Air.{hasKind}
 use Rattle.rules.specs.Listing.{stateText}
-use Rattle.out.proofs.Runs.{decide}
 use Rattle.out.proofs.Digits.{length-hex}
-use Rattle.rules.proofs.SheetLaws.{width-most}
+use Rattle.rules.proofs.Basics.{cases-bool}
+use Rattle.rules.proofs.TableRules.{width-most}
 use Rattle.columns.specs.Columns.{Cell, blank, code, dead, Row, rowOf, codeRows, deadRows, rowsOf, filled, gap, lineText, codeText, cellText, rowText, rowsText, ruleText}
 
 -- ---- a cell that is filled up
@@ -63,9 +63,9 @@ length-filled width text h = simp (length-append, length-replicate) (omega arith
 -- the third column has every kind above that of RDS
 pub third-column : (kind : ℕ) (c : Cell) → cond (ltb 1 kind) c blank ≡ cond (eqb kind dab || eqb kind rds) blank c
 third-column kind c =
-    decide (eqb kind 0)
+    cases-bool (eqb kind 0)
     (λ e. rw (e, le-ltb 1 kind (omega (arith, eqb-true kind 0 e))))
-    (λ e. decide (eqb kind 1)
+    (λ e. cases-bool (eqb kind 1)
     (λ f. rw (e, f, le-ltb 1 kind (omega (arith, eqb-true kind 1 f))))
     (λ f. rw (e, f, lt-ltb 1 kind (omega (arith, eqb-false kind 0 e, eqb-false kind 1 f)))))
 
@@ -75,9 +75,9 @@ length-cells : (csv : Bool) (kind : ℕ) (c : Cell)
     + length (cellText csv (cond (eqb kind dab || eqb kind rds) blank c)) ≡ length (cellText csv c)
 unfolding cellText
 length-cells csv kind c =
-    decide (eqb kind 0)
+    cases-bool (eqb kind 0)
     (λ e. rw (e, ne-eqb kind 1 (λ f. omega (arith, eqb-true kind 0 e))) (omega arith))
-    (λ e. decide (eqb kind 1) (λ f. rw (e, f) (omega arith)) (λ f. rw (e, f) (omega arith)))
+    (λ e. cases-bool (eqb kind 1) (λ f. rw (e, f) (omega arith)) (λ f. rw (e, f) (omega arith)))
 
 -- ---- how long a row is
 
@@ -149,7 +149,7 @@ pub length-dead : (csv : Bool) (s : Shown) (kind : ℕ) (named : Bool)
     → length (rowsText csv (deadRows s kind named)) ≡ cond (named && not (hasKind kind (s .set .items))) (cond csv (20 + length (stateText (s .on))) 49) 0
 unfolding rowsText deadRows cellText
 length-dead csv s kind named =
-    decide (named && not (hasKind kind (s .set .items)))
+    cases-bool (named && not (hasKind kind (s .set .items)))
     (λ e. rw e
     (ap length (append-nil (rowText csv (rowOf (s .key) (s .on) kind dead)))
     ∙ length-row (s .key) (s .on) kind dead 9 (omega arith) refl csv

@@ -13,9 +13,7 @@ use Rattle.rules.specs.Collecting.{IdSet, Held, Content, Shown, showing, shownS
 use Rattle.rules.specs.Air.{hasKind}
 use Rattle.rules.specs.Listing.{stateText}
 use Rattle.rules.proofs.Basics.{and-left, and-right}
-use Rattle.lists.proofs.StoredLaws.{set-facts}
-use Rattle.table.proofs.TableLaws.{meets-facts, entry-facts}
-use Rattle.rules.proofs.SheetLaws.{width-most}
+use Rattle.rules.proofs.TableRules.{set-rules, entry-rules, table-rules, width-most}
 use Rattle.columns.specs.Columns.{rowsOf, filled, gap, lineText, rowsText, ruleText, headingText, setsText, columns}
 use Rattle.columns.proofs.Lines.{narrow-state, length-set}
 
@@ -58,14 +56,14 @@ next-most csv e (some l) rest n m h =
       h,
       suc-mul n (cond csv 3120 6419),
       length-append (rowsText csv (rowsOf s) ++ ruleText csv) (setsText csv rest),
-      set-most csv s (set-facts (e .key) l m .short),
+      set-most csv s (set-rules (e .key) l .0 m .short),
     )
 
 sets-most : (csv : Bool) (c : Content) → entriesMeet c ≡ true → length (setsText csv (shownSets c)) ≤ length c * cond csv 3120 6419
 unfolding shownSets entriesMeet setsText
 sets-most csv [] m = omega arith
 sets-most csv (e ∷ es) m =
-    next-most csv e (e .shown) (shownSets es) (length es) (entry-facts e (and-left (entryMeets e) (entriesMeet es) m) .shown)
+    next-most csv e (e .shown) (shownSets es) (length es) (entry-rules e .0 (and-left (entryMeets e) (entriesMeet es) m) .shown)
     (sets-most csv es (and-right (entryMeets e) (entriesMeet es) m))
 
 -- ---- a table
@@ -73,8 +71,8 @@ sets-most csv (e ∷ es) m =
 pub columns-most : (csv : Bool) (c : Content) → meets c ≡ true → length (columns csv c) ≤ cond csv 99872 205506
 unfolding columns headingText lineText filled gap ruleText
 columns-most true c m =
-    let f = meets-facts c m in
+    let f = table-rules c .0 m in
     omega (arith, f .short, sets-most true c (f .entries), length-append (headingText true ++ ruleText true) (setsText true (shownSets c)))
 columns-most false c m =
-    let f = meets-facts c m in
+    let f = table-rules c .0 m in
     omega (arith, f .short, sets-most false c (f .entries), length-append (headingText false ++ ruleText false) (setsText false (shownSets c)))

@@ -8,32 +8,15 @@ use mathlib.Core.List.{List, [], _∷_, _++_, map, zipWith}
 use native.Mathlib.Nat.{not-suc-le-zero, le-of-suc-le-suc}
 use native.Mathlib.Numerals.{add-one}
 use native.Mathlib.Omega.{arith}
-use lib.ListN.{length, getD, drop, replicate, length-append}
+use lib.ListN.{length, getD, drop, replicate}
 use lib.Seq.{drop-cons}
 use lib.Dec.{eqb}
 use lib.Bits.{bitXor, xor-shr, xor-lt}
 use Rattle.rules.specs.Block.{bits, number, generator, shift, shifts, register}
+use Rattle.rules.proofs.AirBlock.{shift-length}
 use Rattle.crc.proofs.Bits.{length-bits, bits-xor, bits-up, bits-up-by, number-bits, complement}
 
 -- ---- its length
-
-length-zip : (xs ys : List Bool) → length xs ≡ length ys → length (zipWith xor xs ys) ≡ length ys
-unfolding zipWith
-length-zip [] ys e = e
-length-zip (x ∷ xs) [] e = refl
-length-zip (x ∷ xs) (y ∷ ys) e = ap suc (length-zip xs ys (let p : length xs ≡ length ys = omega arith in p))
-
-length-shift : (r : List Bool) (d : Bool) → length r ≡ 16 → length (shift r d) ≡ 16
-unfolding shift generator bits
-length-shift [] d e = e
-length-shift (top ∷ low) d e = pick (xor top d)
-  where
-    moved : length (low ++ false ∷ []) ≡ 16
-    moved = simp length-append (omega arith)
-
-    pick : (b : Bool) → length (cond b (zipWith xor (low ++ false ∷ []) generator) (low ++ false ∷ [])) ≡ 16
-    pick true = length-zip (low ++ false ∷ []) generator moved
-    pick false = moved
 
 -- ---- data bits added to the top
 
@@ -91,7 +74,7 @@ unfolding into shifts
 at-once r [] e h = refl
 at-once [] (d ∷ ds) e h = let no : ⊥ = omega arith in absurd no
 at-once (t ∷ r) (d ∷ ds) e h =
-    at-once (shift (t ∷ r) d) ds (length-shift (t ∷ r) d e) (omega arith)
+    at-once (shift (t ∷ r) d) ds (shift-length (t ∷ r) d e) (omega arith)
     ∙ ap (λ (x : List Bool). shifts x (replicate (length ds) false)) (into-shift t r d ds (omega arith))
 
 -- ---- as numbers

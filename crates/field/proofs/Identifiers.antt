@@ -9,14 +9,8 @@ use mathlib.Core.List.{List, [], _∷_, map}
 use lib.ListN.{length, getD, take, drop, length-map, List·getD-map}
 use lib.Seq.{drop-drop}
 use lib.Dec.{eqb, eqb·suc-zero}
-use Rattle.rules.specs.Field.{Pair, pair, dab, rds, drm, bigEndian, identifiers, startPairs}
-use Rattle.field.specs.declared.Identifier.the-variants.{Dab, Rds, Drm}
+use Rattle.rules.specs.Field.{Pair, pair, dab, bigEndian, identifiers, startPairs}
 use Rattle.field.specs.FieldStep.{ofKind, pairOf}
-
-pub length-identifiers : (w n : ℕ) (bytes : List ℕ) → length (identifiers w n bytes) ≡ n
-unfolding identifiers
-length-identifiers w zero bytes = refl
-length-identifiers w (suc n) bytes = ap suc (length-identifiers w n (drop w bytes))
 
 -- the i-th number is written by the w bytes after those of the i before it
 pub identifiers-at :
@@ -46,15 +40,6 @@ pairs-at true q i ns h = List·getD-map (pair q) ns i 0
 pairs-at false q i [] h = absurd (omega arith)
 pairs-at false q zero (n ∷ ns) h = refl
 pairs-at false q (suc i) (n ∷ ns) h = rw (eqb·suc-zero i) (List·getD-map (pair q) ns i 0)
-
-pub ofKind-number : (k n : ℕ) → pairOf (ofKind k n) .number ≡ n
-unfolding ofKind
-ofKind-number k n = go (eqb k rds) (eqb k drm)
-  where
-    go : (b d : Bool) → pairOf (cond b (Rds (record { 0 = n })) (cond d (Drm (record { 0 = n })) (Dab (record { 0 = n })))) .number ≡ n
-    go true d = refl
-    go false true = refl
-    go false false = refl
 
 -- of the kinds that there are, an identifier keeps kind and number
 pub ofKind-pair : (k n : ℕ) → k < 4 → (k ≡ 2 → ⊥) → pairOf (ofKind k n) ≡ pair k n

@@ -1,35 +1,29 @@
 -- What the functions of this crate mean by the rules, in this order: the field at a place; the ranges of a field that was
--- found; what a field says; its identifiers, one at a time, and how large their numbers are. The helpers on `cond` come first.
-use Prim.Native.Nat.{ℕ, suc, _+_, _*_, _/_, _%_, _^_, _≤_, _<_}
+-- found; what a field says; its identifiers, one at a time.
+use Prim.Native.Nat.{ℕ, suc, _+_, _*_, _/_, _%_, _≤_, _<_}
 use native.Mathlib.Omega.{arith}
 use native.Mathlib.Nat.{add-zero, zero-mul, suc-mul, mul-le-mul-right}
 use mathlib.Core.Path.{_≡_, refl, ap, sym, _∙_, subst₂}
-use mathlib.Core.Bool.{Bool, true, false, cond, _&&_, _||_, not, true≢false}
+use mathlib.Core.Bool.{Bool, true, false, cond, not}
 use mathlib.Core.List.{List, [], _∷_}
 use lib.ListN.{length, getD, drop, drop-of-length-le}
 use lib.Seq.{drop-cons, drop-drop}
 use lib.Dec.{leb, ltb, eqb}
-use borrow.Author.Tests.{ltb-false, eqb-false, lt-leb}
+use borrow.Author.Tests.{ltb-false, lt-leb}
 use Rattle.rules.specs.Field.{pair, width, identifiers, shortField, listField, listBytes, fieldAt, keyOf, hasList, isContinuation, firstKind, pairsOf, wrongValue, emptyStart}
-use Rattle.field.specs.declared.Identifier.{Identifier}
-use Rattle.field.specs.declared.Identifier.the-variants.{Dab}
+use Rattle.rules.proofs.Taken.{length-identifiers}
+use Rattle.rules.proofs.Basics.{not-first, cond-ap}
 use Rattle.field.specs.declared.Field.{Field}
-use Rattle.field.specs.declared.FieldStep.{FieldStep}
 use Rattle.field.specs.declared.FieldStep.the-variants.{Found, End, Wrong}
 use Rattle.field.specs.FieldStep.{headOf, fieldStepAt, meaning, found, keyIn, hasListIn, continues, wrongIn, emptyIn, numberAt, kindAt, ofKind, identifierAt, pairOf, pairsFrom}
-use Rattle.field.proofs.Numbers.{numberAt-below, bytesAt-within, width-range}
-use Rattle.field.proofs.Identifiers.{length-identifiers, identifiers-at, length-pairs, pairs-at, ofKind-number, ofKind-pair}
+use Rattle.field.proofs.Numbers.{bytesAt-within, width-range}
+use Rattle.field.proofs.Identifiers.{identifiers-at, length-pairs, pairs-at, ofKind-pair}
 
 -- ---- the field at a place
 
--- the meaning of a choice is the choice of the meanings
-found-cond : (body : List ℕ) (b : Bool) (x y : FieldStep) → found body (cond b x y) ≡ cond b (found body x) (found body y)
-found-cond body true x y = refl
-found-cond body false x y = refl
-
 pub fieldStepAt-means : (body : List ℕ) (at : ℕ) → found body (fieldStepAt body at) ≡ fieldAt body at
 unfolding fieldStepAt found meaning fieldAt shortField listField listBytes identifiers
-fieldStepAt-means body at = simp found-cond
+fieldStepAt-means body at = simp (cond-ap (found body))
 
 -- ---- ranges
 
@@ -60,11 +54,6 @@ head-ranges :
     → from + c % 16 * width (h / 32 % 2) (a / 16 % 2) ≤ length body → Reached body at (headOf flag h a b c from) next
 head-ranges body at next flag h a b c from bit hh hb hc on inside fits = omega arith
 
--- a choice that came out as something else than its first part was decided against it
-refused : {A : Type 0} (b : Bool) {x y v : A} → (x ≡ v → ⊥) → cond b x y ≡ v → (b ≡ false) × (y ≡ v)
-refused true not e = absurd (not e)
-refused false not e = (refl, e)
-
 -- a choice that came out as v, by its two sides
 either : {A C : Type 0} (b : Bool) {x y v : A} → cond b x y ≡ v → (x ≡ v → C) → (y ≡ v → C) → C
 either true e f g = f e
@@ -91,26 +80,20 @@ module _ (body : List ℕ) (at : ℕ) (f : Field) (next : ℕ) where
         let a = getD body at 0 in
         let b = getD body (at + 1) 0 in
         let c = getD body (at + 2) 0 in
-        let one = refused (leb (length body) at) no-end e in
-        let two = refused (ltb (length body) (at + 2)) no-wrong (one .1) in
+        let one = not-first (leb (length body) at) no-end e in
+        let two = not-first (ltb (length body) (at + 2)) no-wrong (one .1) in
         either (ltb a 128) (two .1)
         (λ p. as-found (headOf 0 h a b 0 (at + 2)) (at + 2) p
         (head-ranges body at (at + 2) 0 h a b 0 (at + 2) (omega arith) (bytes 0) (bytes (at + 1)) (omega arith) (omega arith)
         (ltb-false _ _ (two .0)) (rw (zero-mul, add-zero) (ltb-false _ _ (two .0)))))
         (λ p.
-        let three = refused (ltb (length body) (at + 3)) no-wrong p in
-        let fits = refused (ltb (length body) (at + 3 + listBytes h a c)) no-wrong (three .1) in
+        let three = not-first (ltb (length body) (at + 3)) no-wrong p in
+        let fits = not-first (ltb (length body) (at + 3 + listBytes h a c)) no-wrong (three .1) in
         as-found (headOf 1 h a b c (at + 3)) (at + 3 + listBytes h a c) (fits .1)
         (head-ranges body at (at + 3 + listBytes h a c) 1 h a b c (at + 3) (omega arith) (bytes 0) (bytes (at + 1)) (bytes (at + 2))
         (omega arith) (ltb-false _ _ (fits .0)) (ltb-false _ _ (fits .0))))
 
 -- ---- what a field says
-
--- where none of three holds, the second does not
-middle : (a b c : Bool) → (a || b || c) ≡ false → b ≡ false
-middle true b c e = absurd (true≢false e)
-middle false true c e = absurd (true≢false e)
-middle false false c e = refl
 
 module _ (body : List ℕ) (f : Field) where
   pub key-means : keyIn f ≡ keyOf (meaning body f)
@@ -129,13 +112,6 @@ module _ (body : List ℕ) (f : Field) where
   unfolding wrongIn wrongValue meaning
   wrong-value-means = refl
 
-  -- a field with no wrong value has a qualifier that is not reserved
-  pub not-reserved : wrongIn f ≡ false → f .qualifier ≡ 2 → ⊥
-  unfolding wrongIn
-  not-reserved right =
-      eqb-false (f .qualifier) 2
-      (middle (eqb (f .lsn) 0 || eqb (f .rfu) 1 || eqb (f .shorthand) 1) (eqb (f .qualifier) 2) (eqb (f .pd) 1 && not (eqb (f .qualifier) 0)) right)
-
   pub empty-start-means : emptyIn f ≡ emptyStart (meaning body f)
   unfolding emptyIn emptyStart hasList isContinuation meaning
   empty-start-means = rw length-identifiers
@@ -152,14 +128,6 @@ kindAt-range f i h not = go (eqb (f .cn) 1) (eqb i 0)
     go false true = omega arith
     go false false = (h, not)
 
--- an identifier's number is below m, also where service 0 stands for it
-stands-below :
-    (m : ℕ) (b d : Bool) (x : Identifier) → pairOf x .number < m
-    → pairOf (cond b (Dab (record { 0 = 0 })) (cond d (Dab (record { 0 = 0 })) x)) .number < m
-stands-below m true d x h = omega arith
-stands-below m false true x h = omega arith
-stands-below m false false x h = h
-
 module _ (body : List ℕ) (f : Field) where
   pub pairs-count : length (pairsOf (meaning body f)) ≡ f .count
   unfolding pairsOf isContinuation firstKind meaning
@@ -175,15 +143,6 @@ module _ (body : List ℕ) (f : Field) where
   pub pairs-none : (i : ℕ) → f .count ≤ i → pairsFrom body f i ≡ []
   unfolding pairsFrom
   pairs-none i h = drop-of-length-le (pairsOf (meaning body f)) {i = i} (omega (arith, pairs-count))
-
-  -- each number is within the field's width
-  pub number-within : ((k : ℕ) → getD body k 0 < 256) → (i : ℕ) → pairOf (identifierAt body f i) .number < 256 ^ width (f .pd) (f .ils)
-  unfolding identifierAt
-  number-within bytes i =
-      let w = width (f .pd) (f .ils) in
-      let n = numberAt w body (f .from + i * w) in
-      stands-below (256 ^ w) (leb 16 i) (leb (length body) (f .from)) (ofKind (kindAt f i) n)
-      (rw (ofKind-number (kindAt f i) n) (numberAt-below w body (f .from + i * w) bytes))
 
   module _ (r : InBody body f) (i : ℕ) (i< : i < f .count) where
     -- its bytes are in the body
@@ -203,11 +162,6 @@ module _ (body : List ℕ) (f : Field) where
           identifiers-at w (f .count) i (drop (f .from) body) i<,
           drop-drop (i * w) (f .from) body,
         )
-
-    -- it is within the field's width
-    pub numbers-within : ((k : ℕ) → getD body k 0 < 256) → getD (meaning body f .numbers) i 0 < 256 ^ width (f .pd) (f .ils)
-    numbers-within bytes =
-        rw (← number-means) (numberAt-below (width (f .pd) (f .ils)) body (f .from + i * width (f .pd) (f .ils)) bytes)
 
     -- no service 0 stands for it
     identifier-there :

@@ -1,8 +1,8 @@
--- Numbers of several bytes, in this order: a number with one byte more at its end, and how large a number of w bytes can be;
+-- Numbers of several bytes, in this order: a number with one byte more at its end;
 -- the bytes within a body as a part of it; the widths of identifiers.
-use Prim.Native.Nat.{ℕ, zero, suc, _+_, _*_, _^_, _≤_, _<_}
+use Prim.Native.Nat.{ℕ, zero, suc, _+_, _*_, _≤_, _<_}
 use native.Mathlib.Omega.{arith}
-use native.Mathlib.Nat.{add-zero, pow-suc}
+use native.Mathlib.Nat.{add-zero}
 use native.Mathlib.Numerals.{add-one}
 use mathlib.Core.Path.{_≡_, refl, ap}
 use mathlib.Core.Bool.{Bool, true, false, cond}
@@ -35,14 +35,6 @@ numberAt-more w body place = rw (bytesAt-more w body place) (bigEndian-more 0 (b
 pub numberAt-one : (body : List ℕ) (place : ℕ) → numberAt 1 body place ≡ getD body place 0
 unfolding numberAt bytesAt bigEndian
 numberAt-one body place = omega arith
-
--- w bytes write a number below 256 ^ w
-pub numberAt-below : (w : ℕ) (body : List ℕ) (place : ℕ) → ((i : ℕ) → getD body i 0 < 256) → numberAt w body place < 256 ^ w
-unfolding numberAt bytesAt bigEndian
-numberAt-below zero body place bytes = omega arith
-numberAt-below (suc w) body place bytes =
-    let below = numberAt-below w body place bytes in
-    rw (numberAt-more w body place, pow-suc 256 w) (omega (arith, bytes (place + w)))
 
 -- within a body they are a part of it
 pub bytesAt-within : (w : ℕ) (body : List ℕ) (place : ℕ) → place + w ≤ length body → bytesAt w body place ≡ take w (drop place body)

@@ -1,23 +1,17 @@
 -- What a step means by the rules, in this order: the answer at a place of a block is what figAt says stands there; and where
--- it is a FIG, where that FIG lies. The helpers on `cond` come first.
+-- it is a FIG, where that FIG lies.
 use Prim.Native.Nat.{ℕ, _+_, _-_, _≤_, _<_, _%_}
 use native.Mathlib.Omega.{arith}
-use mathlib.Core.Path.{_≡_, refl}
-use mathlib.Core.Bool.{Bool, true, false, cond}
+use mathlib.Core.Path.{_≡_}
 use mathlib.Core.List.{List}
 use lib.ListN.{length, getD}
 use lib.Dec.{leb, ltb, eqb}
 use borrow.Author.Tests.{eq-eqb, eqb-true, eqb-false, leb-false, ltb-false}
 use Rattle.rules.specs.Block.{figAt}
+use Rattle.rules.proofs.Basics.{not-first, not-second, cond-ap}
 use Rattle.figs.specs.declared.Cursor.{Cursor}
-use Rattle.figs.specs.declared.FigStep.{FigStep}
 use Rattle.figs.specs.declared.FigStep.the-variants.{Fig, End, Wrong}
 use Rattle.figs.specs.Figs.{stepAt, found}
-
--- the meaning of a choice is the choice of the meanings
-found-cond : (fib : List ℕ) (b : Bool) (x y : FigStep) → found fib (cond b x y) ≡ cond b (found fib x) (found fib y)
-found-cond fib true x y = refl
-found-cond fib false x y = refl
 
 -- a length counted from the start to the end
 span : (a n : ℕ) → a + n - a ≡ n
@@ -26,17 +20,7 @@ span a n = omega arith
 -- the FIG at a place of a block, as the rules find it there
 pub stepAt-means : (fib : List ℕ) (at : ℕ) → length fib ≡ 32 → found fib (stepAt fib at) ≡ figAt fib at
 unfolding stepAt figAt found
-stepAt-means fib at h = simp (eq-eqb _ _ h, found-cond, span)
-
--- a choice that came out as something else than its first part was decided against it
-refused : {A : Type 0} (b : Bool) {x y v : A} → (x ≡ v → ⊥) → cond b x y ≡ v → (b ≡ false) × (y ≡ v)
-refused true not e = absurd (not e)
-refused false not e = (refl, e)
-
--- and as something else than its second part, for it
-taken : {A : Type 0} (b : Bool) {x y v : A} → (y ≡ v → ⊥) → cond b x y ≡ v → (b ≡ true) × (x ≡ v)
-taken true not e = (refl, e)
-taken false not e = absurd (not e)
+stepAt-means fib at h = simp (eq-eqb _ _ h, cond-ap (found fib), span)
 
 no-end : (k s e : ℕ) (n : Cursor) → End ≡ Fig k s e n → ⊥
 no-end k s e n p = let z : _≡_ {A = ℕ} 0 1 = cc in omega arith
@@ -58,11 +42,11 @@ pub stepAt-range : (fib : List ℕ) (at k s e : ℕ) (n : Cursor) → stepAt fib
 unfolding stepAt
 stepAt-range fib at k s e n p =
     let x = getD fib at 0 in
-    let a = taken (eqb (length fib) 32) (no-wrong k s e n) p in
-    let b = refused (leb 30 at) (no-end k s e n) (a .1) in
-    let c = refused (eqb x 255) (no-end k s e n) (b .1) in
-    let d = refused (eqb (x % 32) 0) (no-wrong k s e n) (c .1) in
-    let f = refused (ltb 30 (at + 1 + x % 32)) (no-wrong k s e n) (d .1) in
+    let a = not-second (eqb (length fib) 32) (no-wrong k s e n) p in
+    let b = not-first (leb 30 at) (no-end k s e n) (a .1) in
+    let c = not-first (eqb x 255) (no-end k s e n) (b .1) in
+    let d = not-first (eqb (x % 32) 0) (no-wrong k s e n) (c .1) in
+    let f = not-first (ltb 30 (at + 1 + x % 32)) (no-wrong k s e n) (d .1) in
     let g = f .1 in
     let starts : s ≡ at + 1 = cc in
     let stops : e ≡ at + 1 + x % 32 = cc in

@@ -1,29 +1,30 @@
 -- Laws of a list with a field's identifiers added. In order: one turn of the loop over them; on the stored form of a list.
-use Prim.Native.Nat.{ℕ, zero, suc, _+_, _-_, _*_, _/_, _%_, _<_, _≤_, min, max}
-use native.Mathlib.Nat.{le-of-suc-le-suc, not-suc-le-zero}
+use Prim.Native.Nat.{ℕ, zero, suc, _+_, _-_, _<_, _≤_}
 use native.Mathlib.Numerals.{add-one}
 use native.Mathlib.Omega.{arith}
-use mathlib.Core.Path.{_≡_, refl, sym, ap, ap₂, _∙_, subst}
+use mathlib.Core.Path.{_≡_, refl, sym, ap, ap₂, _∙_}
 use mathlib.Core.Bool.{Bool, true, false, cond}
-use mathlib.Core.List.{List, [], _∷_, _++_, map, map-append}
+use mathlib.Core.List.{List, [], _∷_, _++_}
 use mathlib.Core.Option.{Option, none, some}
-use lib.ListN.{length, getD, set, take, drop, replicate, length-append, length-map, length-replicate}
+use lib.ListN.{length, drop, replicate, length-append}
 use lib.Dec.{ltb, leb, eqb}
-use lib.Seq.{set-at, append-snoc}
 use borrow.Author.Tests.{lt-ltb, le-ltb, le-leb, lt-leb, ltb-true, ltb-false}
+use Rattle.rules.specs.Arrays.{padded}
 use Rattle.rules.specs.Field.{Pair, pair, namedBy, pairsOf}
 use Rattle.rules.specs.Family.{member, added, addedAll, extended, opening}
 use Rattle.rules.specs.Collecting.{linkage, IdSet, joinNames, brings}
 use Rattle.rules.specs.Outcomes.{numberIn, kindIn}
-use Rattle.rules.proofs.FamilyLaws.{addedAll-grows, length-addedAll}
+use Rattle.rules.proofs.FamilyLaws.{addedAll-grows, length-addedAll, added-new}
+use Rattle.rules.proofs.Basics.{cases-bool}
+use Rattle.rules.proofs.TableRules.{lawful}
+use Rattle.rules.proofs.Arrays.{set-column}
 use Rattle.field.specs.declared.Field.{Field}
 use Rattle.field.specs.declared.Identifier.{Identifier}
 use Rattle.field.specs.FieldStep.{identifierAt, pairOf, meaning, pairsFrom}
 use Rattle.field.proofs.Laws.{InBody, pairs-count, pairs-all, pairs-none, pairs-step}
 use Rattle.lists.specs.declared.IdList.{IdList}
-use Rattle.lists.specs.Stored.{padded, storeList, emptyList, pairsIn}
+use Rattle.lists.specs.Stored.{storeList, emptyList, pairsIn}
 use Rattle.lists.specs.Grown.{put, grown, grownAs, fieldPairs, renamed, withField}
-use Rattle.lists.proofs.Pairs.{decide}
 use Rattle.lists.proofs.StoredLaws.{pairs-in-store}
 
 -- ---- one turn of the loop
@@ -85,25 +86,12 @@ grown-from l m ps g e h = ap (λ (x : IdList). grown x ps) e ∙ h
 
 -- ---- on the stored form of a list
 
-set-padded : (n : ℕ) (ys : List ℕ) (v : ℕ) → length ys < n → set (padded n 0 ys) (length ys) v ≡ padded n 0 (ys ++ v ∷ [])
-unfolding padded
-set-padded n ys v h =
-    let e : n - length ys ≡ suc (n - (length ys + 1)) = omega arith in
-    ap (λ (k : ℕ). set (ys ++ replicate k 0) (length ys) v) e
-    ∙ set-at ys 0 (replicate (n - (length ys + 1)) 0) v (length ys) refl
-    ∙ sym (append-snoc ys v (replicate (n - (length ys + 1)) 0))
-    ∙ ap (λ (k : ℕ). (ys ++ v ∷ []) ++ replicate (n - k) 0) (sym (length-append ys (v ∷ [])))
-
 put-store : (xs : List Pair) (named : ℕ) (p : Pair) → length xs < 128
     → put (storeList (record { items = xs; named = named })) p ≡ storeList (record { items = xs ++ p ∷ []; named = named })
 unfolding put storeList numberIn kindIn
 put-store xs named p h =
-    let ns : set (padded 128 0 (map numberIn xs)) (length xs) (numberIn p) ≡ padded 128 0 (map numberIn (xs ++ p ∷ [])) =
-    ap (λ (k : ℕ). set (padded 128 0 (map numberIn xs)) k (numberIn p)) (sym (length-map xs numberIn))
-    ∙ set-padded 128 (map numberIn xs) (numberIn p) (rw length-map h) ∙ ap (padded 128 0) (sym (map-append numberIn xs (p ∷ []))) in
-    let ks : set (padded 128 0 (map kindIn xs)) (length xs) (kindIn p) ≡ padded 128 0 (map kindIn (xs ++ p ∷ [])) =
-    ap (λ (k : ℕ). set (padded 128 0 (map kindIn xs)) k (kindIn p)) (sym (length-map xs kindIn))
-    ∙ set-padded 128 (map kindIn xs) (kindIn p) (rw length-map h) ∙ ap (padded 128 0) (sym (map-append kindIn xs (p ∷ []))) in
+    let ns = set-column numberIn 128 (length xs) 0 xs p refl refl refl h in
+    let ks = set-column kindIn 128 (length xs) 0 xs p refl refl refl h in
     let len : length xs + 1 ≡ length (xs ++ p ∷ []) = sym (length-append xs (p ∷ [])) in
     λ i. record { numbers = ns i; kinds = ks i; len = len i; named = named }
 
@@ -114,10 +102,10 @@ pub grown-store : (ps xs : List Pair) (named : ℕ) → length xs ≤ 128
 unfolding grown addedAll storeList
 grown-store [] xs named h = rw (le-leb (length xs) 128 h)
 grown-store (p ∷ ps) xs named h =
-    decide (member linkage p xs)
+    cases-bool (member linkage p xs)
     (λ t. rw (pairs-of, t, added-there t) (grown-store ps xs named h))
-    (λ n. rw (pairs-of, n, added-new n)
-    (decide (ltb (length xs) 128)
+    (λ n. rw (pairs-of, n, added-new linkage lawful xs p n)
+    (cases-bool (ltb (length xs) 128)
     (λ l. rw (l, put-store xs named p (ltb-true (length xs) 128 l)) (grown-store ps (xs ++ p ∷ []) named (rw (length-append xs (p ∷ [])) (omega (arith, ltb-true (length xs) 128 l)))))
     (λ f.
     let g = addedAll-grows linkage (xs ++ p ∷ []) ps in
@@ -130,9 +118,6 @@ grown-store (p ∷ ps) xs named h =
 
     added-there : member linkage p xs ≡ true → added linkage xs p ≡ xs
     added-there t = unfold added in rw t
-
-    added-new : member linkage p xs ≡ false → added linkage xs p ≡ xs ++ p ∷ []
-    added-new n = unfold added in rw n
 
 -- the identifiers of a field, one by one, are its pairs
 pairs-from : (body : List ℕ) (f : Field) → InBody body f → (f .qualifier ≡ 2 → ⊥) → (i n : ℕ) → i + n ≡ f .count → fieldPairs body f i n ≡ pairsFrom body f i
@@ -150,7 +135,7 @@ field-pairs body f r q = pairs-from body f r q 0 (f .count) (omega arith) ∙ pa
 -- a new list names what its own qualifier names
 join-none : (k : ℕ) → joinNames 0 (namedBy k) ≡ namedBy k
 unfolding joinNames namedBy
-join-none k = decide (eqb k 1) (λ e. rw e) (λ e. rw e (decide (eqb k 3) (λ g. rw g) (λ g. rw g)))
+join-none k = cases-bool (eqb k 1) (λ e. rw e) (λ e. rw e (cases-bool (eqb k 3) (λ g. rw g) (λ g. rw g)))
 
 none-named : (k : ℕ) → renamed emptyList (joinNames (emptyList .named) (namedBy k)) ≡ storeList (record { items = []; named = namedBy k })
 unfolding renamed emptyList storeList padded

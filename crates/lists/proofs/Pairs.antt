@@ -5,21 +5,17 @@ use native.Mathlib.Nat.{le-of-suc-le-suc, not-suc-le-zero}
 use native.Mathlib.Numerals.{add-one}
 use native.Mathlib.Omega.{arith}
 use mathlib.Core.Path.{_≡_, refl, sym, ap, _∙_}
-use mathlib.Core.Bool.{Bool, true, false, not, _&&_, _||_}
+use mathlib.Core.Bool.{true, false}
 use mathlib.Core.List.{List, [], _∷_}
-use lib.ListN.{length, getD, take, drop, length-take, drop-of-length-le}
+use lib.ListN.{length, getD, drop, length-take, drop-of-length-le}
 use lib.Dec.{eqb, ltb}
 use lib.Seq.{drop-cons, getD-take}
 use borrow.Author.Tests.{eq-eqb, ne-eqb, eqb-true}
 use Rattle.rules.specs.Field.{Pair, pair}
 use Rattle.rules.specs.Family.{member}
 use Rattle.rules.specs.Collecting.{linkage, samePair, pairsMeet, kindNamed, allDiffer}
+use Rattle.rules.proofs.Basics.{cases-bool}
 use Rattle.lists.specs.Stored.{paired, pairsIn, allZero}
-
--- a test one way or the other, with what it says
-pub decide {ℓ} : {C : Type ℓ} (b : Bool) → (b ≡ true → C) → (b ≡ false → C) → C
-decide true yes' no' = yes' refl
-decide false yes' no' = no' refl
 
 pub length-paired : (ks ns : List ℕ) → length (paired ks ns) ≡ min (length ks) (length ns)
 unfolding paired
@@ -62,7 +58,7 @@ member-here k n k' n' rest p q = rw (eq-eqb k k' (sym p), eq-eqb n n' (sym q))
 pub member-next : (k n k' n' : ℕ) (rest : List Pair) → (k' ≡ k → n' ≡ n → ⊥) → member linkage (pair k n) (pair k' n' ∷ rest) ≡ member linkage (pair k n) rest
 unfolding member samePair pair
 member-next k n k' n' rest differ =
-    decide (eqb k k')
+    cases-bool (eqb k k')
     (λ e. rw (e, ne-eqb n n' (λ q. differ (sym (eqb-true k k' e)) (sym q))))
     (λ e. rw e)
 

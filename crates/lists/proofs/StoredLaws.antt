@@ -1,23 +1,26 @@
 -- Laws of the stored form of a list. In order: zeros; the pairs of a stored list are its items; what is read off a list that
 -- holds something (`Facts`), and that these facts are enough (`holds-by`); a test that fails or passes (`refuted`, `passed`).
-use Prim.Native.Nat.{ℕ, zero, suc, _+_, _-_, _<_, _≤_, min}
+use Prim.Native.Nat.{ℕ, zero, suc, _+_, _-_, _≤_}
 use native.Mathlib.Omega.{arith}
 use mathlib.Core.Path.{_≡_, refl, sym, ap, ap₂, _∙_, subst}
 use mathlib.Core.Logic.{_≢_}
-use mathlib.Core.Bool.{Bool, true, false, not, cond, _&&_, true≢false, false≢true}
+use mathlib.Core.Bool.{Bool, true, false, cond, false≢true}
 use mathlib.Core.List.{List, [], _∷_, _++_, map}
 use mathlib.Core.Option.{Option, none, some}
-use lib.ListN.{length, getD, take, drop, replicate, length-take, length-drop, length-append, length-map, length-replicate, take-append-drop}
-use lib.Dec.{eqb, leb}
-use lib.Seq.{drop-append-seam, take-append-seam, length-take-le}
-use borrow.Author.Tests.{eqb-true, eqb-false, eq-eqb, ne-eqb, leb-true, le-leb}
+use lib.ListN.{length, getD, take, drop, replicate, length-drop, length-map}
+use lib.Dec.{eqb}
+use lib.Seq.{take-append-seam}
+use borrow.Author.Tests.{eqb-true, eqb-false, eq-eqb, ne-eqb}
+use Rattle.rules.specs.Arrays.{padded}
 use Rattle.rules.specs.Field.{Pair, pair}
-use Rattle.rules.specs.Family.{Listed}
-use Rattle.rules.specs.Collecting.{linkage, IdSet, keyWidth, pairsMeet, namesMeet, allDiffer, firstIsDab, setMeets, ifThere}
+use Rattle.rules.specs.Collecting.{IdSet, keyWidth, pairsMeet, namesMeet, allDiffer, firstIsDab, ifThere}
 use Rattle.rules.specs.Outcomes.{numberIn, kindIn}
+use Rattle.rules.proofs.Basics.{cases-bool, and-left, and-right}
+use Rattle.rules.proofs.Arrays.{length-padded, drop-padded, same-padded}
+use Rattle.rules.proofs.TableRules.{SetRules, set-rules}
 use Rattle.lists.specs.declared.IdList.{IdList}
-use Rattle.lists.specs.Stored.{padded, storeList, emptyList, storeMaybe, paired, pairsIn, allZero, Holds, Tested}
-use Rattle.lists.proofs.Pairs.{decide, length-paired, length-pairs-in}
+use Rattle.lists.specs.Stored.{storeList, emptyList, storeMaybe, paired, pairsIn, allZero, Holds, Tested}
+use Rattle.lists.proofs.Pairs.{length-pairs-in}
 
 -- ---- zeros
 
@@ -26,14 +29,6 @@ unfolding allZero
 all-zero-replicate zero = refl
 all-zero-replicate (suc n) = all-zero-replicate n
 
-pub and-left : (a b : Bool) → (a && b) ≡ true → a ≡ true
-and-left true b e = refl
-and-left false b e = e
-
-pub and-right : (a b : Bool) → (a && b) ≡ true → b ≡ true
-and-right true b e = e
-and-right false b e = absurd (false≢true e)
-
 zeros-replicate : (xs : List ℕ) → allZero xs ≡ true → xs ≡ replicate (length xs) 0
 unfolding allZero
 zeros-replicate [] e = refl
@@ -41,15 +36,7 @@ zeros-replicate (x ∷ xs) e = ap₂ _∷_ (eqb-true x 0 (and-left (eqb x 0) (al
 
 -- past the values of a stored array there are zeros
 pub padded-zeros : (n : ℕ) (xs : List ℕ) → allZero (drop (length xs) (padded n 0 xs)) ≡ true
-unfolding padded
-padded-zeros n xs = ap allZero (drop-append-seam xs (replicate (n - length xs) 0)) ∙ all-zero-replicate (n - length xs)
-
--- an array with one value past len places is the stored form of those places
-pub same-padded {ℓ} : {A : Type ℓ} (n len : ℕ) (d : A) (xs : List A) → length xs ≡ n → len ≤ n → drop len xs ≡ replicate (n - len) d → xs ≡ padded n d (take len xs)
-unfolding padded
-same-padded {A = A} n len d xs l h e =
-    sym (take-append-drop len xs)
-    ∙ ap (λ (r : List A). take len xs ++ r) (e ∙ ap (λ (k : ℕ). replicate (n - k) d) (sym (length-take-le len xs (omega arith))))
+padded-zeros n xs = ap allZero (drop-padded n 0 xs (length xs) refl) ∙ all-zero-replicate (n - length xs)
 
 pub zeros-padded : (n len : ℕ) (xs : List ℕ) → length xs ≡ n → len ≤ n → allZero (drop len xs) ≡ true → xs ≡ padded n 0 (take len xs)
 zeros-padded n len xs l h z =
@@ -66,14 +53,14 @@ pub pairs-in-store : (l : IdSet) → pairsIn (storeList l .kinds) (storeList l .
 unfolding pairsIn storeList padded
 pairs-in-store l = ap (take (length (l .items))) (paired-map (l .items) _ _) ∙ take-append-seam (l .items) _
 
-kinds-of-pairs : (ks ns : List ℕ) (len : ℕ) → length ks ≡ length ns → map kindIn (pairsIn ks ns len) ≡ take len ks
+pub kinds-of-pairs : (ks ns : List ℕ) (len : ℕ) → length ks ≡ length ns → map kindIn (pairsIn ks ns len) ≡ take len ks
 unfolding pairsIn paired kindIn pair
 kinds-of-pairs ks ns zero e = refl
 kinds-of-pairs [] ns (suc len) e = refl
 kinds-of-pairs (k ∷ ks) [] (suc len) e = absurd (omega arith)
 kinds-of-pairs (k ∷ ks) (n ∷ ns) (suc len) e = ap (λ (r : List ℕ). k ∷ r) (kinds-of-pairs ks ns len (omega arith))
 
-numbers-of-pairs : (ks ns : List ℕ) (len : ℕ) → length ks ≡ length ns → map numberIn (pairsIn ks ns len) ≡ take len ns
+pub numbers-of-pairs : (ks ns : List ℕ) (len : ℕ) → length ks ≡ length ns → map numberIn (pairsIn ks ns len) ≡ take len ns
 unfolding pairsIn paired numberIn pair
 numbers-of-pairs ks ns zero e = refl
 numbers-of-pairs [] [] (suc len) e = refl
@@ -110,32 +97,6 @@ pub record Facts (key : ℕ) (l : IdList) : Type 0 where
   pub pairs : (l .len ≡ 0 → ⊥) → pairsMeet (keyWidth key) (l .named) (pairsIn (l .kinds) (l .numbers) (l .len)) ≡ true
   pub differ : (l .len ≡ 0 → ⊥) → allDiffer (pairsIn (l .kinds) (l .numbers) (l .len)) ≡ true
 
--- the parts of the rule for a set
-pub record SetFacts (key : ℕ) (l : IdSet) : Type 0 where
-  pub short : length (l .items) ≤ 128
-  pub first : firstIsDab (l .items) ≡ true
-  pub differ : allDiffer (l .items) ≡ true
-  pub pairs : pairsMeet (keyWidth key) (l .named) (l .items) ≡ true
-  pub names : namesMeet key (l .named) ≡ true
-
-pub set-facts : (key : ℕ) (l : IdSet) → setMeets key l ≡ true → SetFacts key l
-unfolding setMeets
-set-facts key l e =
-    let a = and-left _ (namesMeet key (l .named)) e in
-    let b = and-left _ (pairsMeet (keyWidth key) (l .named) (l .items)) a in
-    let d = and-left _ (allDiffer (l .items)) b in
-    record {
-      short = leb-true _ _ (and-left (leb (length (l .items)) 128) (firstIsDab (l .items)) d);
-      first = and-right (leb (length (l .items)) 128) (firstIsDab (l .items)) d;
-      differ = and-right (leb (length (l .items)) 128 && firstIsDab (l .items)) (allDiffer (l .items)) b;
-      pairs = and-right (leb (length (l .items)) 128 && firstIsDab (l .items) && allDiffer (l .items)) (pairsMeet (keyWidth key) (l .named) (l .items)) a;
-      names = and-right (leb (length (l .items)) 128 && firstIsDab (l .items) && allDiffer (l .items) && pairsMeet (keyWidth key) (l .named) (l .items)) (namesMeet key (l .named)) e;
-    }
-
-pub set-meets : (key : ℕ) (l : IdSet) → SetFacts key l → setMeets key l ≡ true
-unfolding setMeets
-set-meets key l f = rw (le-leb _ _ (f .short), f .first, f .differ, f .pairs, f .names)
-
 first-kind : (ps : List Pair) (pad : List ℕ) → firstIsDab ps ≡ true → getD (map kindIn ps ++ pad) 0 0 ≡ 0
 unfolding firstIsDab kindIn
 first-kind [] pad e = absurd (false≢true e)
@@ -146,7 +107,7 @@ first-of : (l : IdSet) → firstIsDab (l .items) ≡ true → getD (storeList l 
 unfolding storeList padded
 first-of l e = first-kind (l .items) _ e
 
-some-facts : (key : ℕ) (l : IdSet) → SetFacts key l → Facts key (storeList l)
+some-facts : (key : ℕ) (l : IdSet) → SetRules key l → Facts key (storeList l)
 unfolding storeList
 some-facts key l f =
     record {
@@ -159,6 +120,11 @@ some-facts key l f =
       pairs = λ n. ap (pairsMeet (keyWidth key) (l .named)) (pairs-in-store l) ∙ f .pairs;
       differ = λ n. ap allDiffer (pairs-in-store l) ∙ f .differ;
     }
+
+-- a stored list is not empty
+pub stored-some : (key : ℕ) (l : IdSet) → ifThere key (some l) ≡ true → storeMaybe (some l) .len ≡ 0 → ⊥
+unfolding ifThere storeMaybe storeList
+stored-some key l m z = not-none (l .items) (set-rules key l .0 m .first) z
 
 store-facts : (key : ℕ) (o : Option IdSet) → ifThere key o ≡ true → Facts key (storeMaybe o)
 unfolding ifThere storeMaybe emptyList allZero
@@ -173,7 +139,7 @@ store-facts key none e =
       pairs = λ n. absurd (n refl);
       differ = λ n. absurd (n refl);
     }
-store-facts key (some l) e = some-facts key l (set-facts key l e)
+store-facts key (some l) e = some-facts key l (set-rules key l .0 e)
 
 pub holds-facts : (key : ℕ) (l : IdList) → Holds key l → Facts key l
 unfolding Holds
@@ -189,7 +155,7 @@ list-of-store : (key : ℕ) (o : Option IdSet) → ifThere key o ≡ true → li
 unfolding listOf storeMaybe storeList emptyList ifThere
 list-of-store key none e = refl
 list-of-store key (some l) e =
-    rw (ne-eqb (length (l .items)) 0 (not-none (l .items) (set-facts key l e .first)))
+    rw (ne-eqb (length (l .items)) 0 (not-none (l .items) (set-rules key l .0 e .first)))
     (ap (λ (ps : List Pair). some (record { items = ps; named = l .named })) (pairs-in-store l))
 
 pub list-of-holds : (key : ℕ) (l : IdList) → Holds key l → (ifThere key (listOf l) ≡ true) × (storeMaybe (listOf l) ≡ l)
@@ -227,7 +193,7 @@ module _ (key : ℕ) (l : IdList) (f : Facts key l) (numbers-long : length (l .n
       ∙ ap (padded 128 0) (sym (kinds-of-pairs (l .kinds) (l .numbers) (l .len) (kinds-long ∙ sym numbers-long))) in
       λ i. record { numbers = ns i; kinds = ks i; len = sym length-kept i; named = l .named }
 
-  kept-facts : (l .len ≡ 0 → ⊥) → SetFacts key kept
+  kept-facts : (l .len ≡ 0 → ⊥) → SetRules key kept
   unfolding kept
   kept-facts n =
       record {
@@ -249,9 +215,9 @@ module _ (key : ℕ) (l : IdList) (f : Facts key l) (numbers-long : length (l .n
   pub holds-by : Holds key l
   unfolding Holds ifThere storeMaybe
   holds-by =
-      decide (eqb (l .len) 0)
+      cases-bool (eqb (l .len) 0)
       (λ z. (none, refl, empty-stored (eqb-true _ _ z)))
-      (λ n. (some kept, set-meets key kept (kept-facts (eqb-false _ _ n)), stored))
+      (λ n. (some kept, set-rules key kept .1 (kept-facts (eqb-false _ _ n)), stored))
 
 -- ---- a test that fails, and one that passes
 
@@ -286,16 +252,12 @@ tested-empty key l nl kl z zn zk =
 
 -- ---- the arrays of a list that holds something are 128 long
 
-length-padded : (n : ℕ) (xs : List ℕ) → length xs ≤ n → length (padded n 0 xs) ≡ n
-unfolding padded
-length-padded n xs h = length-append xs (replicate (n - length xs) 0) ∙ rw length-replicate (omega arith)
-
 store-long : (key : ℕ) (o : Option IdSet) → ifThere key o ≡ true → (length (storeMaybe o .numbers) ≡ 128) × (length (storeMaybe o .kinds) ≡ 128)
 unfolding storeMaybe emptyList storeList ifThere
 store-long key none m = (refl, refl)
 store-long key (some l) m =
-    let h : length (l .items) ≤ 128 = set-facts key l m .short in
-    (length-padded 128 (map numberIn (l .items)) (rw length-map h), length-padded 128 (map kindIn (l .items)) (rw length-map h))
+    let h : length (l .items) ≤ 128 = set-rules key l .0 m .short in
+    (length-padded 128 0 (map numberIn (l .items)) (rw length-map h), length-padded 128 0 (map kindIn (l .items)) (rw length-map h))
 
 pub holds-long : (key : ℕ) (l : IdList) → Holds key l → (length (l .numbers) ≡ 128) × (length (l .kinds) ≡ 128)
 unfolding Holds

@@ -1,20 +1,17 @@
 -- How a list of identifiers is stored (document 01, Collecting: one content has one stored form, unused places included).
 -- A set has at least one identifier, so length 0, with everything zero, is the stored form of no list.
-use Prim.Native.Nat.{ℕ, zero, suc, _+_, _-_, _≤_}
+use Prim.Native.Nat.{ℕ}
 use mathlib.Core.Path.{_≡_}
-use mathlib.Core.Bool.{Bool, true, false, _&&_}
-use mathlib.Core.List.{List, [], _∷_, _++_, map}
+use mathlib.Core.Bool.{Bool, true, _&&_}
+use mathlib.Core.List.{List, [], _∷_, map}
 use mathlib.Core.Option.{Option, none, some}
-use lib.ListN.{length, take, drop, replicate}
+use lib.ListN.{length, take, replicate}
 use lib.Dec.{eqb}
+use Rattle.rules.specs.Arrays.{padded}
 use Rattle.rules.specs.Field.{Pair, pair}
 use Rattle.rules.specs.Collecting.{IdSet, ifThere}
 use Rattle.rules.specs.Outcomes.{numberIn, kindIn}
 use Rattle.lists.specs.declared.IdList.{IdList}
-
--- these values, and then others up to n places
-unfoldable pub padded {ℓ} : {A : Type ℓ} → ℕ → A → List A → List A
-padded n d xs = xs ++ replicate (n - length xs) d
 
 -- a list: numbers and kinds from place 0 on, zeros past them
 unfoldable pub storeList : IdSet → IdList

@@ -10,7 +10,7 @@ use lib.Dec.{ltb}
 use lib.Pow.{pow-add}
 use borrow.Author.Tests.{lt-ltb, le-ltb}
 use Rattle.rules.specs.Listing.{hexDigit, hexText, decimalTo, decimal}
-use Rattle.out.proofs.Runs.{decide}
+use Rattle.rules.proofs.Basics.{cases-bool}
 
 -- ---- hexadecimal
 
@@ -38,7 +38,7 @@ decimal-to-append : (k n : ℕ) (text more : List ℕ) → decimalTo k n (text +
 unfolding decimalTo
 decimal-to-append zero n text more = refl
 decimal-to-append (suc k) n text more =
-    decide (ltb n 10)
+    cases-bool (ltb n 10)
     (λ e. rw e)
     (λ e. rw e (decimal-to-append k (n / 10) ((48 + n % 10) ∷ text) more))
 
@@ -47,7 +47,7 @@ decimal-to-more : (k n : ℕ) (text : List ℕ) → n < 10 ^ suc k → decimalTo
 unfolding decimalTo
 decimal-to-more zero n text h = rw (lt-ltb n 10 (omega arith))
 decimal-to-more (suc k) n text h =
-    decide (ltb n 10)
+    cases-bool (ltb n 10)
     (λ e. rw e)
     (λ e. rw e (decimal-to-more k (n / 10) _ (div-lt-iff-lt-mul {k = 10} (omega arith) .1 (rw (← pow-suc 10 (suc k)) h))))
 
@@ -70,7 +70,7 @@ length-decimal-to : (k n : ℕ) (text : List ℕ) → length (decimalTo k n text
 unfolding decimalTo
 length-decimal-to zero n text = omega arith
 length-decimal-to (suc k) n text =
-    decide (ltb n 10)
+    cases-bool (ltb n 10)
     (λ e. rw e (omega arith))
     (λ e. rw e (omega (arith, length-decimal-to k (n / 10) ((48 + n % 10) ∷ text))))
 

@@ -4,18 +4,13 @@ use Prim.Native.Nat.{ℕ, suc, _+_, _≤_, min}
 use native.Mathlib.Nat.{add-zero}
 use native.Mathlib.Omega.{arith}
 use mathlib.Core.Path.{_≡_, refl, sym, ap, _∙_, subst}
-use mathlib.Core.Bool.{Bool, true, false}
 use mathlib.Core.List.{List, [], _∷_, _++_}
 use lib.ListN.{length, set, length-append}
 use lib.Dec.{leb}
 use lib.Seq.{sets, length-sets, set-out}
 use borrow.Author.Tests.{leb-true, leb-false}
+use Rattle.rules.proofs.Basics.{cases-bool}
 use Rattle.out.specs.Put.{Puts}
-
--- a test one way or the other, with what it says
-pub decide {ℓ} : {C : Type ℓ} (b : Bool) → (b ≡ true → C) → (b ≡ false → C) → C
-decide true yes' no' = yes' refl
-decide false yes' no' = no' refl
 
 -- ---- runs
 
@@ -28,7 +23,7 @@ sets-out (v ∷ vs) l i h =
 -- a place past the end is as good as the end
 pub sets-cut : (vs l : List ℕ) (i : ℕ) → sets l (min i (length l)) vs ≡ sets l i vs
 sets-cut vs l i =
-    decide (leb i (length l))
+    cases-bool (leb i (length l))
     (λ e. ap (λ (k : ℕ). sets l k vs) (omega (arith, leb-true i (length l) e)))
     (λ e. sets-out vs l _ (omega (arith, leb-false i (length l) e)) ∙ sym (sets-out vs l i (omega (arith, leb-false i (length l) e))))
 

@@ -16,16 +16,16 @@ use Rattle.rules.specs.Field.{Field}
 use Rattle.rules.specs.Family.{find, forget, dropOpen}
 use Rattle.rules.specs.Collecting.{linkage, IdSet, Held, Content, meets}
 use Rattle.rules.specs.Outcomes as Outcomes
-use Rattle.rules.specs.Outcomes.{numberOf, taken, verdict, readBlock, leftOver, heldOr, forgetOutcome, copySet, copyHeld, copyOut, notCopied}
+use Rattle.rules.specs.Outcomes.{numberOf, taken, verdict, leftOver, heldOr, forgetOutcome, copySet, copyHeld, copyOut, notCopied}
 use Rattle.rules.proofs.Basics.{cases-bool, cases-option, none-some, or-cases, or-false-left, or-false-right}
 use Rattle.rules.proofs.LinkageLaws.{cases-verdict, answer-taken, answer-refused, no-block, notes-fields, Refusal, full-refusal}
+use Rattle.rules.proofs.TableRules.{table-rules}
 use Rattle.lists.specs.Stored.{emptyList}
 use Rattle.table.specs.declared.Table.{Table}
 use Rattle.table.specs.declared.Forgotten.{Forgotten}
 use Rattle.table.specs.declared.Copied.{Copied}
 use Rattle.table.specs.Stored.{storeTable, Stored, stored, notStored}
 use Rattle.table.specs.Answers.{forgottenAs, copiedAs}
-use Rattle.table.proofs.TableLaws.{meets-facts}
 use Rattle.reading.specs.declared.Answer.{Answer}
 use Rattle.reading.specs.declared.Recorded.{Recorded}
 use Rattle.reading.specs.Steps.{storeNotes, noNotes}
@@ -58,7 +58,7 @@ pub data BlockAnswer (t : Table) (fib : List ℕ) (r : Answer) : Type 0 where
 dropped : (t u : Table) (c : Content) → meets c ≡ true → t ≡ storeTable c → u ≡ storeTable (dropOpen linkage c) → Dropped t u
 unfolding storeTable
 dropped t u c f p q =
-    let e = q ∙ store-closed c (meets-facts c f .short) in
+    let e = q ∙ store-closed c (table-rules c .0 f .short) in
     record {
       count = ap (λ (x : Table). x .count) e ∙ sym (ap (λ (x : Table). x .count) p);
       keys = ap (λ (x : Table). x .keys) e ∙ sym (ap (λ (x : Table). x .keys) p);

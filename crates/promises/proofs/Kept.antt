@@ -7,7 +7,8 @@ use lib.ListN.{getD}
 use Rattle.rules.specs.Family.{forget}
 use Rattle.rules.specs.Collecting.{linkage}
 use Rattle.rules.specs.Outcomes.{readBlock, readRecording}
-use Rattle.rules.proofs.LinkageLaws.{meets-nil, block-keeps, recording-keeps, forget-keeps}
+use Rattle.rules.proofs.TableRules.{meets-nil}
+use Rattle.rules.proofs.LinkageLaws.{block-keeps, recording-keeps, forget-keeps}
 use Rattle.rules.proofs.SheetLaws.{load-meets}
 use Rattle.table.specs.declared.Table.{Table}
 use Rattle.table.specs.declared.Forgotten.{Forgotten}

@@ -1,6 +1,6 @@
--- A contract about a given table admits a single answer. In order: the general law (`given-single`); reading a block, a
--- recording, forgetting, copying out with both buffers; an output with its buffer (`write-single`), by it the listing, the
--- columns, the sheet and the blocks for air; loading a sheet; a test.
+-- A contract admits a single answer. In order: an equation; a run of stores; a given table (`given-single`), by it reading a
+-- block, a recording, forgetting, copying out with both buffers; an output with its buffer (`write-single`), by it the listing,
+-- the columns, the sheet and the blocks for air; loading a sheet; a test.
 use Prim.Native.Nat.{ℕ}
 use mathlib.Core.Path.{_≡_, refl, sym, ap, _∙_}
 use mathlib.Core.Bool.{Bool, true, false}
@@ -23,12 +23,22 @@ use Rattle.reading.specs.declared.Answer.{Answer}
 use Rattle.reading.specs.declared.Recorded.{Recorded}
 use Rattle.reading.specs.Runs.{runAs, recordedAs}
 use Rattle.out.specs.declared.Written.{Written}
+use Rattle.out.specs.Put.{Puts}
 use Rattle.out.specs.Answer.{writtenAs}
 use Rattle.sheet.specs.declared.Loaded.{Loaded}
 use Rattle.sheet.specs.Loading.{Loads}
 use Rattle.columns.specs.Columns.{columns}
 use Rattle.promises.proofs.Contracts.{ReadsBlock, ReadsRecording, Forgets, CopiesOut, Outputs, WritesListing, WritesColumns, WritesSheet, WritesAir}
 use Rattle.promises.proofs.Injective.{same-content}
+
+-- a result that an equation says
+pub equal-single : {A : Type 0} {x y z : A} → x ≡ z → y ≡ z → x ≡ y
+equal-single a b = a ∙ sym b
+
+-- a text stored into a buffer: what the buffer holds then, and the place after the text
+pub puts-single : {old text new other : List ℕ} {at next past : ℕ} → Puts old at text new next → Puts old at text other past
+    → (new ≡ other) × (next ≡ past)
+puts-single a b = (equal-single (a .stored) (b .stored), equal-single (a .after) (b .after))
 
 -- where an answer is what the content gives, or else one certain thing, two answers are the same
 pub given-single : {A : Type 0} (t : Table) (x y z : A) (F : Content → A) → Given t (λ c. x ≡ F c) (x ≡ z) → Given t (λ c. y ≡ F c) (y ≡ z) → x ≡ y

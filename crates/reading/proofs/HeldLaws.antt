@@ -1,18 +1,17 @@
 -- A field of a held key on the stored form, case by case: on or off alone; a continuation with no open list, with one that
 -- grows, with one that grows too long; a start with no open list and with one.
 use Prim.Native.Nat.{ℕ, _≤_, _<_}
-use native.Mathlib.Omega.{arith}
-use mathlib.Core.Path.{_≡_, refl, sym, ap, ap₂, _∙_, subst}
-use mathlib.Core.Bool.{Bool, true, false, cond, true≢false, false≢true}
+use mathlib.Core.Path.{_≡_, refl, sym, ap, _∙_}
+use mathlib.Core.Bool.{Bool, true, false, true≢false, false≢true}
 use mathlib.Core.List.{List}
 use mathlib.Core.Option.{Option, none, some}
 use lib.ListN.{length, getD}
 use lib.Dec.{leb}
-use Rattle.rules.specs.declared.Note.{Note}
 use Rattle.rules.specs.declared.Note.the-variants.{Opened, ShownAndOpened, Added, NoOpenList, TooLong, StateOnly}
-use Rattle.rules.specs.Field.{hasList, isContinuation}
-use Rattle.rules.specs.Family.{Entry, Act, start, continuation, noList, entryWith, started, continued, onHeld, extended, opening}
+use Rattle.rules.specs.Family.{Act, start, continuation, noList, entryWith, started, continued, onHeld, extended}
 use Rattle.rules.specs.Collecting.{linkage, IdSet, Held, brings, actOf, ifThere}
+use Rattle.rules.proofs.Basics.{cases-bool}
+use Rattle.rules.proofs.TableRules.{set-rules}
 use Rattle.field.specs.declared.Field.{Field}
 use Rattle.field.specs.declared.FieldStep.the-variants.{Found}
 use Rattle.field.specs.FieldStep.{fieldStepAt, meaning, hasListIn, continues}
@@ -21,16 +20,10 @@ use Rattle.lists.specs.declared.IdList.{IdList}
 use Rattle.lists.specs.declared.Grown.{Grown}
 use Rattle.lists.specs.Stored.{storeList, emptyList, storeMaybe}
 use Rattle.lists.specs.Grown.{withField, grownAs}
-use Rattle.lists.proofs.Pairs.{decide}
-use Rattle.lists.proofs.StoredLaws.{not-none, set-facts}
+use Rattle.lists.proofs.StoredLaws.{stored-some}
 use Rattle.lists.proofs.GrownLaws.{with-store, with-none}
 use Rattle.reading.specs.declared.Stepped.{Stepped}
 use Rattle.reading.specs.Steps.{isShowing, steppedAs}
-
--- a stored list is not empty
-some-long : (k : ℕ) (d : IdSet) → ifThere k (some d) ≡ true → storeMaybe (some d) .len ≡ 0 → ⊥
-unfolding ifThere storeMaybe storeList
-some-long k d m z = not-none (d .items) (set-facts k d m .first) z
 
 -- ---- what the field asks for
 
@@ -54,7 +47,7 @@ module _ (body : List ℕ) (f : Field) (r : InBody body f) (q : f .qualifier ≡
       → record { shows = false; draft = storeMaybe o; note = NoOpenList } ≡ steppedAs (continued linkage e s (brings (meaning body f)) o)
   unfolding continued entryWith steppedAs isShowing
   more-none none m z = refl
-  more-none (some d) m z = absurd (some-long k d m z)
+  more-none (some d) m z = absurd (stored-some k d m z)
 
   -- the list with a continuation, in the rules' words
   longer : IdSet → IdSet
@@ -82,14 +75,14 @@ module _ (body : List ℕ) (f : Field) (r : InBody body f) (q : f .qualifier ≡
 
   short : (d : IdSet) → ifThere k (some d) ≡ true → length (d .items) ≤ 128
   unfolding ifThere
-  short d m = set-facts k d m .short
+  short d m = set-rules k d .0 m .short
 
   more-fits : (o : Option IdSet) (g : Grown) → ifThere k o ≡ true → (storeMaybe o .len ≡ 0 → ⊥) → g ≡ withField (storeMaybe o) body f → g .fits ≡ true
       → record { shows = false; draft = g .list; note = Added } ≡ steppedAs (continued linkage e s (brings (meaning body f)) o)
   unfolding storeMaybe emptyList
   more-fits none g m n w t = absurd (n refl)
   more-fits (some d) g m n w t =
-      decide (leb (length (longer d .items)) 128)
+      cases-bool (leb (length (longer d .items)) 128)
       (λ l. ap (λ (x : Grown). record { shows = false; draft = x .list; note = Added }) (grown-fits d g (short d m) w l) ∙ continued-fits d l)
       (λ l. absurd (false≢true (sym (ap (λ (x : Grown). x .fits) (grown-not d g (short d m) w l)) ∙ t)))
 
@@ -98,7 +91,7 @@ module _ (body : List ℕ) (f : Field) (r : InBody body f) (q : f .qualifier ≡
   unfolding storeMaybe emptyList
   more-not none g m n w t = absurd (n refl)
   more-not (some d) g m n w t =
-      decide (leb (length (longer d .items)) 128)
+      cases-bool (leb (length (longer d .items)) 128)
       (λ l. absurd (true≢false (sym (ap (λ (x : Grown). x .fits) (grown-fits d g (short d m) w l)) ∙ t)))
       (λ l. ap (λ (x : Grown). record { shows = false; draft = x .list; note = TooLong }) (grown-not d g (short d m) w l) ∙ continued-not d l)
 
@@ -107,7 +100,7 @@ module _ (body : List ℕ) (f : Field) (r : InBody body f) (q : f .qualifier ≡
       → record { shows = false; draft = g .list; note = Opened } ≡ steppedAs (started linkage e s (brings (meaning body f)) o)
   unfolding started entryWith steppedAs isShowing storeMaybe
   start-none none g m z w = ap (λ (x : Grown). record { shows = false; draft = x .list; note = Opened }) (w ∙ with-none body f r q)
-  start-none (some d) g m z w = absurd (some-long k d m z)
+  start-none (some d) g m z w = absurd (stored-some k d m z)
 
   start-some : (o : Option IdSet) (g : Grown) → (storeMaybe o .len ≡ 0 → ⊥) → g ≡ withField emptyList body f
       → record { shows = true; draft = g .list; note = ShownAndOpened } ≡ steppedAs (started linkage e s (brings (meaning body f)) o)

@@ -1,41 +1,39 @@
 -- The loop that reads blocks: what it keeps (`Going`), and one turn of it. In order: notes as they are stored; a field more;
 -- a block more, taken or refused; the end.
-use Prim.Native.Nat.{ℕ, zero, suc, _+_, _-_, _*_, _/_, _%_, _<_, _≤_, suc-le-suc}
+use Prim.Native.Nat.{ℕ, zero, suc, _+_, _-_, _/_, _%_, _<_, _≤_}
 use native.Mathlib.Nat.{le-of-suc-le-suc, not-suc-le-zero}
 use native.Mathlib.Numerals.{add-one}
 use native.Mathlib.Omega.{arith}
 use mathlib.Core.Path.{_≡_, refl, sym, ap, ap₂, _∙_, subst}
-use mathlib.Core.Bool.{Bool, true, false, cond}
-use mathlib.Core.List.{List, [], _∷_, _++_, map, append-assoc, append-nil, map-append}
-use mathlib.Core.Option.{Option, none, some}
-use lib.ListN.{length, getD, set, take, drop, replicate, length-append, length-map, length-take, length-drop}
-use lib.Seq.{drop-cons, drop-drop, set-at, append-snoc, drop-length, getD-take, getD-drop, take-all}
+use mathlib.Core.Bool.{true}
+use mathlib.Core.List.{List, [], _∷_, _++_, map, append-nil}
+use lib.ListN.{length, getD, take, drop, length-append, length-take}
+use lib.Seq.{drop-cons, drop-drop, append-snoc, drop-length, getD-take, getD-drop, take-all}
 use lib.Dec.{ltb}
 use lib.ListN.{List·getD-eq-default}
 use borrow.Author.Tests.{ltb-true, ltb-false}
-use Rattle.lists.proofs.Pairs.{decide}
+use Rattle.rules.specs.Arrays.{padded}
 use Rattle.rules.specs.declared.Outcome.{Outcome}
 use Rattle.rules.specs.declared.Outcome.the-variants.{Done, NotABlock}
 use Rattle.rules.specs.declared.Note.{Note}
 use Rattle.rules.specs.declared.Note.the-variants.{Opened}
 use Rattle.rules.specs.Field.{Field as FieldOf}
-use Rattle.rules.specs.Family.{step, steps, dropOpen, closed}
-use Rattle.rules.specs.Collecting.{linkage, Held, Content, said, meets}
-use Rattle.rules.specs.Outcomes.{Verdict, taken, refused, verdict, Answer, answerTo, readBlock, readBlocks, readRecording, leftOver}
-use Rattle.rules.proofs.Basics.{Every}
+use Rattle.rules.specs.Family.{step, steps, dropOpen}
+use Rattle.rules.specs.Collecting.{linkage, Content, said, meets}
+use Rattle.rules.specs.Outcomes.{taken, refused, verdict, Answer, readBlock, readBlocks, readRecording, leftOver}
+use Rattle.rules.proofs.Basics.{Every, cases-bool}
 use Rattle.rules.proofs.Taken.{GoodField, taken-good}
-use Rattle.rules.proofs.LinkageLaws.{Meets, table-meets, meets-steps, meets-drop-open, answer-taken, answer-refused, bytes-list, no-block}
-use Rattle.lists.specs.Stored.{padded, emptyList, storeMaybe}
+use Rattle.rules.proofs.TableRules.{Meets, table-meets}
+use Rattle.rules.proofs.LinkageLaws.{meets-steps, meets-drop-open, answer-taken, answer-refused, bytes-list, no-block}
+use Rattle.rules.proofs.Arrays.{set-column}
 use Rattle.table.specs.declared.Table.{Table}
-use Rattle.table.specs.Stored.{storeTable, draftIn, keyIn, onIn, shownIn}
+use Rattle.table.specs.Stored.{storeTable}
 use Rattle.block.specs.declared.Spots.{Spots}
 use Rattle.block.specs.Judged.{Placed, noSpots, noField, SpotIs, noSpot}
 use Rattle.reading.specs.declared.Notes.{Notes}
-use Rattle.reading.specs.declared.Noted.{Noted}
 use Rattle.reading.specs.declared.Answer.{Answer as Run}
 use Rattle.reading.specs.Steps.{storeNotes, notedAs, notedAt, noNotes}
 use Rattle.reading.specs.Runs.{begun, runBlocks, runAs, Runs, recordedAs}
-use Rattle.reading.specs.declared.Recorded.{Recorded}
 
 -- ---- notes as they are stored
 
@@ -44,17 +42,9 @@ unfolding noNotes storeNotes padded notedAs
 no-notes = refl
 
 pub note-more : (ns : List Note) (n : Note) → length ns < 14 → notedAt (storeNotes ns) (length ns) n ≡ storeNotes (ns ++ n ∷ [])
-unfolding notedAt storeNotes padded notedAs
+unfolding notedAt storeNotes notedAs
 note-more ns n h =
-    let e : 14 - length (map notedAs ns) ≡ suc (14 - (length ns + 1)) = ap (λ (k : ℕ). 14 - k) (length-map ns notedAs) ∙ omega arith in
-    let k : 14 - length (map notedAs (ns ++ n ∷ [])) ≡ 14 - (length ns + 1) = ap (λ (j : ℕ). 14 - j) (length-map (ns ++ n ∷ []) notedAs ∙ length-append ns (n ∷ [])) in
-    let x : List Noted = replicate (14 - (length ns + 1)) (notedAs Opened) in
-    let all : set (map notedAs ns ++ replicate (14 - length (map notedAs ns)) (notedAs Opened)) (length ns) (notedAs n)
-    ≡ map notedAs (ns ++ n ∷ []) ++ replicate (14 - length (map notedAs (ns ++ n ∷ []))) (notedAs Opened) =
-    ap (λ (m : ℕ). set (map notedAs ns ++ replicate m (notedAs Opened)) (length ns) (notedAs n)) e
-    ∙ set-at (map notedAs ns) (notedAs Opened) x (notedAs n) (length ns) (length-map ns notedAs)
-    ∙ sym (append-snoc (map notedAs ns) (notedAs n) x)
-    ∙ ap₂ (λ (a : List Noted) (m : ℕ). a ++ replicate m (notedAs Opened)) (sym (map-append notedAs ns (n ∷ []))) (sym k) in
+    let all = set-column notedAs 14 (length ns) (notedAs Opened) ns n refl refl refl h in
     λ i. record { notes = all i; count = sym (length-append ns (n ∷ [])) i }
 
 -- ---- what the loop keeps
@@ -138,7 +128,7 @@ step-meets c c' n g good m e =
 -- bytes of a part
 pub part-bytes : (n at : ℕ) (bytes : List ℕ) → ((j : ℕ) → getD bytes j 0 < 256) → (j : ℕ) → getD (take n (drop at bytes)) j 0 < 256
 part-bytes n at bytes b j =
-    decide (ltb j n)
+    cases-bool (ltb j n)
     (λ h. rw (getD-take n (drop at bytes) j 0 (ltb-true j n h), getD-drop at bytes j 0) (b (at + j)))
     (λ h. rw (List·getD-eq-default (take n (drop at bytes)) 0 {n = j} (rw (length-take n (drop at bytes)) (omega (arith, ltb-false j n h)))) (omega arith))
 

@@ -1,25 +1,24 @@
 -- One field on a table's stored form: what the rules' step is at a held key's place, at a new key's place, and where nothing
 -- changes; each with the table that the code makes.
-use Prim.Native.Nat.{ℕ, zero, suc, _+_, _-_, _<_, _≤_}
+use Prim.Native.Nat.{ℕ, suc, _+_, _-_, _<_, _≤_}
 use native.Mathlib.Omega.{arith}
 use mathlib.Core.Path.{_≡_, refl, sym, ap, ap₂, _∙_, subst}
-use mathlib.Core.Bool.{Bool, true, false, not, cond, _&&_}
-use mathlib.Core.List.{List, [], _∷_, _++_, map}
+use mathlib.Core.Bool.{Bool, true, false, cond}
+use mathlib.Core.List.{_∷_, _++_, map}
 use mathlib.Core.Option.{Option, none, some}
-use lib.ListN.{length, getD, set, take, drop, length-map, length-append, length-take, length-drop, length-set}
-use lib.Dec.{ltb, leb, eqb}
+use lib.ListN.{length, getD, set, take, drop, length-append, length-drop, length-set}
+use lib.Dec.{leb, eqb}
 use lib.Seq.{map-set-same, length-take-le}
-use native.Mathlib.Nat.{le-of-suc-le-suc, not-suc-le-zero}
 use borrow.Author.Tests.{lt-ltb, le-ltb}
-use Rattle.rules.specs.declared.Note.{Note}
+use Rattle.rules.specs.Arrays.{padded}
 use Rattle.rules.specs.declared.Note.the-variants.{Opened, Full, UnknownKey}
 use Rattle.rules.specs.Field.{Field as FieldOf, keyOf}
-use Rattle.rules.specs.Family.{Listed, Act, start, continuation, noList, Entry, Said, entryWith, started, continued, onHeld, fresh, onUnheld, kept, effect, find, replace, insert, store, step, opening, extended}
+use Rattle.rules.specs.Family.{Act, start, continuation, noList, entryWith, started, continued, onHeld, fresh, onUnheld, kept, effect, insert, store, step, opening, extended}
 use Rattle.rules.specs.Collecting.{linkage, IdSet, Held, Content, brings, actOf, said, ascends}
 use Rattle.rules.proofs.FamilyLaws.{onHeld-key}
+use Rattle.rules.proofs.Basics.{cases-bool, getD-map}
 use Rattle.lists.specs.declared.IdList.{IdList}
-use Rattle.lists.specs.Stored.{padded, storeList, emptyList, storeMaybe}
-use Rattle.lists.proofs.Pairs.{decide}
+use Rattle.lists.specs.Stored.{storeList, emptyList, storeMaybe}
 use Rattle.table.specs.declared.Table.{Table}
 use Rattle.table.specs.Stored.{keyIn, onIn, shownIn, draftIn, storeTable, openedTable}
 use Rattle.table.specs.Places.{placeIn, opened}
@@ -37,7 +36,7 @@ module _ (e : Held) (s : Bool) where
   continued-state : (l : IdSet) (o : Option IdSet) → continued linkage e s l o .0 .state ≡ s
   unfolding continued entryWith
   continued-state l none = refl
-  continued-state l (some d) = decide (leb (length (extended linkage d l .items)) 128) (λ b. rw b) (λ b. rw b)
+  continued-state l (some d) = cases-bool (leb (length (extended linkage d l .items)) 128) (λ b. rw b) (λ b. rw b)
 
   pub held-state : (a : Act linkage) → onHeld linkage e s a .0 .state ≡ s
   unfolding onHeld entryWith
@@ -53,7 +52,7 @@ module _ (e : Held) (s : Bool) where
   continued-shown : (l : IdSet) (o : Option IdSet) → continued linkage e s l o .0 .shown ≡ cond (isShowing (continued linkage e s l o .1)) o (e .shown)
   unfolding continued entryWith isShowing
   continued-shown l none = refl
-  continued-shown l (some d) = decide (leb (length (extended linkage d l .items)) 128) (λ b. rw b) (λ b. rw b)
+  continued-shown l (some d) = cases-bool (leb (length (extended linkage d l .items)) 128) (λ b. rw b) (λ b. rw b)
 
   -- the list that was open is shown exactly where the note says so
   pub held-shown : (a : Act linkage) → onHeld linkage e s a .0 .shown ≡ cond (isShowing (onHeld linkage e s a .1)) (e .draft) (e .shown)
@@ -75,12 +74,7 @@ setAt t i on shown draft =
 
 key-at' : (c : Content) (k : ℕ) → Here c k → at' c k .key ≡ k
 unfolding Here keyIn
-key-at' c k h = sym (getD-map c (placeIn (map keyIn c) k) (h .0)) ∙ h .1
-  where
-    getD-map : (c : Content) (i : ℕ) → i < length c → getD (map keyIn c) i 0 ≡ getD c i noEntry .key
-    getD-map [] i l = absurd (not-suc-le-zero l)
-    getD-map (x ∷ c) zero l = refl
-    getD-map (x ∷ c) (suc i) l = getD-map c i (le-of-suc-le-suc l)
+key-at' c k h = sym (getD-map keyIn c (placeIn (map keyIn c) k) 0 noEntry (h .0)) ∙ h .1
 
 set-same : (c : Content) (i : ℕ) (e : Held) → e .key ≡ getD c i noEntry .key → map keyIn (set c i e) ≡ map keyIn c
 unfolding keyIn

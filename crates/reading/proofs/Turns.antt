@@ -1,16 +1,16 @@
 -- One turn of the loop that reads blocks, as the code takes it: the part of the recording that a field stands in; a field of a
 -- held key; of a new key; one that changes nothing; a refused block.
-use Prim.Native.Nat.{ℕ, zero, suc, _+_, _-_, _*_, _/_, _<_, _≤_, min}
-use native.Mathlib.Nat.{le-of-suc-le-suc, not-suc-le-zero}
+use Prim.Native.Nat.{ℕ, zero, suc, _+_, _-_, _<_, _≤_, min}
 use native.Mathlib.Omega.{arith}
 use mathlib.Core.Path.{_≡_, refl, sym, ap, ap₂, _∙_, subst}
 use mathlib.Core.Bool.{Bool, true, false, not, cond, _&&_, true≢false, false≢true}
-use mathlib.Core.List.{List, [], _∷_, _++_, map}
-use mathlib.Core.Option.{Option, none, some}
-use lib.ListN.{length-take, length-drop, length, getD, set, take, drop, replicate, length-map, length-replicate, replicate-append-replicate}
+use mathlib.Core.List.{List, [], _∷_, map}
+use mathlib.Core.Option.{none}
+use lib.ListN.{length-take, length-drop, length, getD, set, take, drop, replicate, length-map}
 use lib.Dec.{ltb, eqb}
 use lib.Seq.{take-take, drop-drop, set-getD}
-use borrow.Author.Tests.{ltb-true, ltb-false, eqb-true, eqb-false, lt-ltb, le-ltb, not-true}
+use borrow.Author.Tests.{ltb-true, ltb-false, eqb-true, eqb-false, not-true}
+use Rattle.rules.specs.Arrays.{padded}
 use Rattle.rules.specs.declared.Outcome.{Outcome}
 use Rattle.rules.specs.declared.Outcome.the-variants.{Done, NotABlock, CheckFails, WrongFig, WrongField, WrongValue, EmptyStart, NotHeld, ShortBuffer, WrongTable, NotASheet, NotShown}
 use Rattle.rules.specs.Outcomes.{verdict, noBlock}
@@ -20,25 +20,25 @@ use Rattle.rules.specs.declared.Note.{Note}
 use Rattle.rules.specs.declared.Note.the-variants.{Opened, Full, UnknownKey}
 use Rattle.rules.specs.Field.{Field as FieldOf, keyOf}
 use Rattle.rules.specs.Family.{Act, start, continuation, noList, step, onHeld, fresh, insert, opening, dropOpen, closed, entryWith}
-use Rattle.rules.specs.Collecting.{linkage, IdSet, Held, Content, said, actOf, brings, meets, ascends, ifThere}
+use Rattle.rules.specs.Collecting.{linkage, Held, Content, said, actOf, brings, ascends, ifThere}
 use Rattle.rules.proofs.FamilyLaws.{onHeld-key}
+use Rattle.rules.proofs.Basics.{cases-bool, and-left, and-right}
+use Rattle.rules.proofs.Arrays.{padded-replicate}
+use Rattle.rules.proofs.TableRules.{table-rules, entry-rules}
 use Rattle.field.specs.declared.Field.{Field}
 use Rattle.field.specs.declared.FieldStep.the-variants.{Found}
 use Rattle.field.specs.FieldStep.{meaning, keyIn, hasListIn, continues, fieldStepAt}
 use Rattle.field.proofs.Laws.{InBody, fieldStepAt-range}
 use Rattle.lists.specs.declared.IdList.{IdList}
 use Rattle.lists.specs.declared.Grown.{Grown}
-use Rattle.lists.specs.Stored.{padded, storeList, emptyList, storeMaybe}
+use Rattle.lists.specs.Stored.{storeList, emptyList, storeMaybe}
 use Rattle.lists.specs.Grown.{withField}
-use Rattle.lists.proofs.Pairs.{decide}
-use Rattle.lists.proofs.StoredLaws.{and-left, and-right}
 use Rattle.lists.proofs.GrownLaws.{with-none}
 use Rattle.table.specs.declared.Table.{Table}
 use Rattle.table.specs.Stored.{onIn, shownIn, draftIn, storeTable, openedTable, past}
 use Rattle.table.specs.Stored as S
 use Rattle.table.specs.Places.{placeIn}
-use Rattle.table.proofs.TableLaws.{meets-facts, entry-facts}
-use Rattle.table.proofs.Entries.{Here, noEntry}
+use Rattle.table.proofs.Entries.{Here}
 use Rattle.table.proofs.GivenLaws.{is-here, not-past, not-other, place-at, count-of}
 use Rattle.table.proofs.CopyOut.{column-at, entry-at}
 use Rattle.block.specs.declared.Spot.{Spot}
@@ -131,7 +131,7 @@ module _ (bytes : List ℕ) (t₀ t : Table) (notes : Notes) (o : Outcome) (spot
   unfolding c
   nowhere b there =
       let k : Here c key = subst (Here c) (sym key-is) there in
-      decide (ltb p (t .count))
+      cases-bool (ltb p (t .count))
       (λ l. not-other t c (G .stored) p key p-is (ltb-true p (t .count) l) (eqb-false _ _ (rw l at b)) k)
       (λ l. not-past t c (G .stored) p key p-is (ltb-false p (t .count) l) k)
 
@@ -168,7 +168,7 @@ module _ (bytes : List ℕ) (t₀ t : Table) (notes : Notes) (o : Outcome) (spot
 
     draft-meets : ifThere (x .key) (x .draft) ≡ true
     unfolding c j x
-    draft-meets = entry-facts _ (entry-at c (meets-facts c (G .now-meets) .entries) j within) .draft
+    draft-meets = entry-rules _ .0 (entry-at c (table-rules c .0 (G .now-meets) .entries) j within) .draft
 
     after : Held × Note
     after = onHeld linkage x (eqb (g .la) 1) (actOf g)
@@ -230,7 +230,7 @@ module _ (bytes : List ℕ) (t₀ t : Table) (notes : Notes) (o : Outcome) (spot
   module _ (b : (ltb p (t .count) && eqb (getD (t .keys) p 0) key) ≡ false) where
     ascending : ascends 0 c ≡ true
     unfolding c
-    ascending = meets-facts c (G .now-meets) .ascend
+    ascending = table-rules c .0 (G .now-meets) .ascend
 
     count-is : t .count ≡ length c
     unfolding c
@@ -271,8 +271,8 @@ module _ (bytes : List ℕ) (t₀ t : Table) (notes : Notes) (o : Outcome) (spot
     pub turn-same : opensIn f (t .count) ≡ false → (n : Note) → n ≡ unheldNote f → (notes' : Notes) → notes' ≡ notedAt notes i n → Going bytes t₀ t notes' o spots from at (i + 1)
     unfolding opensIn unheldNote
     turn-same shut' n ne notes' q =
-        decide (hasListIn f)
-        (λ has. decide (continues f)
+        cases-bool (hasListIn f)
+        (λ has. cases-bool (continues f)
         (λ more. same UnknownKey (step-unknown-more c g ascending (nowhere b) (act-is noList (λ y. continuation (brings y)) (act-more body f has more))) notes'
         (q ∙ ap (notedAt notes i) (ne ∙ rw (has, more))))
         (λ starts.
@@ -292,15 +292,6 @@ closed-draft (e ∷ c) = ap (λ (r : List IdList). emptyList ∷ r) (closed-draf
 same-column : {B : Type 0} (v : Held → B) → ((e : Held) → v (closed linkage e) ≡ v e) → (c : Content) → map v (map (closed linkage) c) ≡ map v c
 same-column v s [] = refl
 same-column v s (e ∷ c) = ap₂ _∷_ (s e) (same-column v s c)
-
-padded-replicate : (n m : ℕ) (d : IdList) → m ≤ n → padded n d (replicate m d) ≡ replicate n d
-unfolding padded
-padded-replicate n m d h =
-    ap (λ (k : ℕ). replicate m d ++ replicate (n - k) d) (length-replicate m d) ∙ replicate-append-replicate m (n - m) d
-    ∙ ap (λ (k : ℕ). replicate k d) (sum m n h)
-  where
-    sum : (m n : ℕ) → m ≤ n → m + (n - m) ≡ n
-    sum m n h = omega arith
 
 keys-same : (e : Held) → S.keyIn (closed linkage e) ≡ S.keyIn e
 unfolding closed entryWith S.keyIn
@@ -345,7 +336,7 @@ module _ (bytes : List ℕ) (t₀ t : Table) (notes : Notes) (o : Outcome) (spot
       }
 
   pub table-short : t .count ≤ 32
-  table-short = omega (arith, count-of t (G .now') (G .stored), meets-facts (G .now') (G .now-meets) .short)
+  table-short = omega (arith, count-of t (G .now') (G .stored), table-rules (G .now') .0 (G .now-meets) .short)
 
   pub place-short : (p k : ℕ) → (ltb p (t .count) && eqb (getD (t .keys) p 0) k) ≡ true → p < 32
   place-short p k b = omega (arith, table-short, ltb-true p (t .count) (and-left (ltb p (t .count)) _ b))
@@ -395,7 +386,7 @@ module _ (bytes : List ℕ) (t₀ t : Table) (notes : Notes) (o : Outcome) (spot
   closed-table n ne =
       (λ k. record { count = G .stored k .count; keys = G .stored k .keys; on = G .stored k .on; shown = G .stored k .shown; draft = replicate 32 (ne k) })
       ∙ ap (λ (m : ℕ). record { count = m; keys = storeTable (G .now') .keys; on = storeTable (G .now') .on; shown = storeTable (G .now') .shown; draft = replicate 32 emptyList }) (count-of (storeTable (G .now')) (G .now') refl)
-      ∙ sym (store-closed (G .now') (meets-facts (G .now') (G .now-meets) .short))
+      ∙ sym (store-closed (G .now') (table-rules (G .now') .0 (G .now-meets) .short))
 
   pub turn-taken : Judges part r → isDone (r .outcome) ≡ true → Going bytes t₀ t notes' (r .outcome) (r .spots) at (at + 32) 0
   turn-taken (isTaken fs v d p) y =

@@ -4,7 +4,6 @@ use mathlib.Core.Path.{_≡_}
 use mathlib.Core.Bool.{true}
 use mathlib.Core.List.{List, []}
 use lib.ListN.{length, take, drop}
-use Rattle.rules.specs.declared.Outcome.{Outcome}
 use Rattle.rules.specs.declared.Outcome.the-variants.{Done, WrongTable}
 use Rattle.rules.specs.Collecting.{Content, meets}
 use Rattle.rules.specs.Outcomes.{Answer, readBlock, readRecording, leftOver}

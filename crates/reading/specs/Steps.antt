@@ -5,17 +5,18 @@ use mathlib.Core.Bool.{Bool, true, false, not, cond, _&&_}
 use mathlib.Core.List.{List, map}
 use lib.ListN.{length, set, replicate}
 use lib.Dec.{ltb}
+use Rattle.rules.specs.Arrays.{padded}
 use Rattle.rules.specs.declared.Outcome.{Outcome}
 use Rattle.rules.specs.declared.Outcome.the-variants.{Done, NotABlock, CheckFails, WrongFig, WrongField, WrongValue, EmptyStart, NotHeld, ShortBuffer, WrongTable, NotASheet, NotShown}
 use Rattle.rules.specs.declared.Note.{Note}
 use Rattle.rules.specs.declared.Note.the-variants.{Opened, ShownAndOpened, Added, NoOpenList, Full, TooLong, StateOnly, UnknownKey}
-use Rattle.rules.specs.Family.{Entry, onHeld}
+use Rattle.rules.specs.Family.{onHeld}
 use Rattle.rules.specs.Collecting.{linkage, Held, actOf, ifThere}
 use Rattle.field.specs.declared.Field.{Field}
 use Rattle.field.specs.declared.FieldStep.the-variants.{Found}
 use Rattle.field.specs.FieldStep.{fieldStepAt, meaning, hasListIn, continues}
 use Rattle.lists.specs.declared.IdList.{IdList}
-use Rattle.lists.specs.Stored.{padded, storeMaybe}
+use Rattle.lists.specs.Stored.{storeMaybe}
 use Rattle.reading.specs.declared.Stepped.{Stepped}
 use Rattle.reading.specs.declared.Noted.{Noted}
 use Rattle.reading.specs.declared.Notes.{Notes}

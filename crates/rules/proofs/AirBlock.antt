@@ -5,20 +5,22 @@ use Prim.Native.Nat.{ℕ, zero, suc, _+_, _-_, _*_, _/_, _%_, _^_, _≤_, _<_}
 use native.Mathlib.Nat.{mod-eq-of-lt, mul-le-mul-right, pow-succ', one-le-pow, div-add-mod', zero-mul, zero-add}
 use native.Mathlib.Omega.{arith}
 use mathlib.Core.Path.{_≡_, refl, sym, ap, _∙_}
-use mathlib.Core.Bool.{Bool, true, false, not, xor, _&&_, _||_}
+use mathlib.Core.Bool.{Bool, true, false, not, xor}
 use mathlib.Core.List.{List, [], _∷_, _++_, map, zipWith, append-assoc}
 use lib.ListN.{length, getD, take, drop, replicate, length-append, length-map}
 use lib.Seq.{take-at, drop-at, getD-at, take-append-add, length-take-le, getD-append-add}
 use lib.Arith.{mod-mul}
 use lib.Dec.{leb, ltb, eqb}
 use borrow.Author.Tests.{eqb-true, eq-eqb, ne-eqb, le-ltb, le-leb, lt-leb}
-use Rattle.rules.specs.Block.{bits, bit, number, generator, shift, shifts, register, checkOf, checkHolds, Step, item, end, wrong, Walk, whole, broken, after, walk, figAt, figs}
-use Rattle.rules.specs.Field.{dab, rds, drm, hasList, isContinuation, wrongValue, emptyStart, isLinking, Field, width, bigEndian, identifiers, listField, listBytes, fieldAt, fieldsOf}
-use Rattle.rules.specs.Collecting.{keyWidth, kindNamed}
+use Rattle.rules.specs.Block.{bits, bit, number, generator, shift, shifts, register, checkOf, checkHolds, Step, item, end, whole, after, walk, figAt, figs}
+use Rattle.rules.specs.Field.{hasList, isContinuation, wrongValue, emptyStart, isLinking, Field, width, bigEndian, identifiers, listField, listBytes, fieldAt, fieldsOf}
+use Rattle.rules.specs.Collecting.{keyWidth}
 use Rattle.rules.specs.Outcomes.{joined, allFields, some?, judgeFields, judgeFigs, taken, verdict}
 use Rattle.rules.specs.Air.{Piece, bigBytes, allBytes, fieldBytes, figBytes, blockOf, pieceMost}
-use Rattle.rules.proofs.Basics.{cases-bool, and-left, and-right, or-cases, cond-both, every-append, every-take}
-use Rattle.rules.proofs.AirPieces.{Below, bit-small, most-small, PieceMeets}
+use Rattle.rules.proofs.Basics.{cases-bool, cond-both, bit-small, every-append, every-take}
+use Rattle.rules.proofs.TableRules.{kind-cases, kind-small}
+use Rattle.rules.proofs.Taken.{walk-item, walk-end}
+use Rattle.rules.proofs.AirPieces.{Below, most-small, PieceMeets}
 
 -- ---- the bytes of numbers
 
@@ -55,22 +57,10 @@ ids-back w (n ∷ ns) h =
 
 -- ---- walks
 
-walk-item : {A : Type 0} (at : ℕ → Step A) (n place next : ℕ) (a : A) → at place ≡ item a next → walk at (suc n) place ≡ after a (walk at n next)
-unfolding walk
-walk-item {A} at n place next a e =
-    ap {A = Step A} {B = Walk A}
-    (λ s. elim s [ item a' next' ↦ after a' (walk at n next') | end ↦ whole [] | wrong ↦ broken place ]) e
-
-walk-end : {A : Type 0} (at : ℕ → Step A) (n place : ℕ) → at place ≡ end → walk at (suc n) place ≡ whole []
-unfolding walk
-walk-end {A} at n place e =
-    ap {A = Step A} {B = Walk A}
-    (λ s. elim s [ item a' next' ↦ after a' (walk at n next') | end ↦ whole [] | wrong ↦ broken place ]) e
-
 -- one item and then the end
 walk-one : {A : Type 0} (at : ℕ → Step A) (n place next : ℕ) (a : A) → at place ≡ item a next → at next ≡ end → walk at (suc (suc n)) place ≡ whole (a ∷ [])
 unfolding after
-walk-one at n place next a e f = walk-item at (suc n) place next a e ∙ ap (after a) (walk-end at n next f)
+walk-one at n place next a e f = walk-item at (suc n) place a next e ∙ ap (after a) (walk-end at n next f)
 
 -- ---- the field of a FIG with one list
 
@@ -301,7 +291,7 @@ module _ (body tail : List ℕ) (some' : 0 < length body) (few : length body ≤
 -- ---- the verdict
 
 -- the identifiers of a piece have 24 bytes at most
-ids-few : (k n : ℕ) → n ≤ pieceMost (keyWidth k) → n * keyWidth k ≤ 24
+pub ids-few : (k n : ℕ) → n ≤ pieceMost (keyWidth k) → n * keyWidth k ≤ 24
 unfolding keyWidth width pieceMost
 ids-few k n h =
     cases-bool (eqb (k / 16384 % 2) 1)
@@ -329,22 +319,6 @@ fig-length k on c h = omega (arith, field-length k on c, ids-few k (length (c .n
 linking-back : (k : ℕ) (on : Bool) (c : Piece) → isLinking (record { type = 0; body = fieldBytes k on c }) ≡ true
 unfolding isLinking fieldBytes headByte
 linking-back k on c = eq-eqb (headByte k c % 32) 6 (head-ext k c)
-
--- the kinds that there are
-kind-cases : {C : Type 0} (named q : ℕ) → kindNamed named q ≡ true → (q ≡ 0 → C) → (q ≡ 1 → named % 2 ≡ 1 → C) → (q ≡ 3 → named / 2 ≡ 1 → C) → C
-unfolding kindNamed
-kind-cases named q h f g e =
-    let r : Bool = eqb q rds && eqb (named % 2) 1 in
-    let d : Bool = eqb q drm && eqb (named / 2) 1 in
-    or-cases (eqb q dab || r) d h
-    (λ x.
-    or-cases (eqb q dab) r x
-    (λ y. f (eqb-true q dab y))
-    (λ y. g (eqb-true q rds (and-left (eqb q rds) (eqb (named % 2) 1) y)) (eqb-true (named % 2) 1 (and-right (eqb q rds) (eqb (named % 2) 1) y))))
-    (λ y. e (eqb-true q drm (and-left (eqb q drm) (eqb (named / 2) 1) y)) (eqb-true (named / 2) 1 (and-right (eqb q drm) (eqb (named / 2) 1) y)))
-
-pub kind-small : (named q : ℕ) → kindNamed named q ≡ true → q < 4
-kind-small named q h = kind-cases named q h (λ e. omega arith) (λ e g. omega arith) (λ e g. omega arith)
 
 -- a piece within the limits, of a key with an LSN, in a set that names nothing where P/D is 1
 module _ (k named : ℕ) (c : Piece) (lsn : k % 4096 ≡ 0 → ⊥) (m : PieceMeets (keyWidth k) named (pieceMost (keyWidth k)) c)
@@ -405,7 +379,7 @@ generator-length : length generator ≡ 16
 unfolding generator bits
 generator-length = refl
 
-shift-length : (r : List Bool) (d : Bool) → length r ≡ 16 → length (shift r d) ≡ 16
+pub shift-length : (r : List Bool) (d : Bool) → length r ≡ 16 → length (shift r d) ≡ 16
 unfolding shift
 shift-length [] d h = h
 shift-length (top ∷ low) d h =

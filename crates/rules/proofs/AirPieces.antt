@@ -7,13 +7,14 @@ use mathlib.Core.Path.{_≡_, refl, sym, ap, _∙_}
 use mathlib.Core.Bool.{Bool, true, false, not, cond, _&&_, _||_, or-false}
 use mathlib.Core.List.{List, [], _∷_, _++_, map, append-assoc, append-nil}
 use lib.ListN.{length, length-append}
-use lib.Dec.{leb, ltb, eqb}
-use borrow.Author.Tests.{ltb-true, leb-true, eqb-true, eqb-false, lt-ltb, eq-eqb}
+use lib.Dec.{ltb, eqb}
+use borrow.Author.Tests.{ltb-true, eqb-true, eqb-false, lt-ltb, eq-eqb}
 use Rattle.rules.specs.Block.{bit}
 use Rattle.rules.specs.Field.{Pair, pair, startPairs, namedBy, dab, rds, drm}
-use Rattle.rules.specs.Collecting.{IdSet, joinNames, allDiffer, kindNamed, pairsMeet, firstIsDab, namesMeet, setMeets, keyWidth}
+use Rattle.rules.specs.Collecting.{IdSet, joinNames, kindNamed, pairsMeet, firstIsDab, setMeets, keyWidth}
 use Rattle.rules.specs.Air.{Piece, goesOn, pieceWith, completed, chop, cut, hasKind, deadLink, pieces, pieceMost}
-use Rattle.rules.proofs.Basics.{cases-bool, and-left, and-right, and-both, or-cases, or-false-left, or-false-right, true-false, Every, every-append, map-append}
+use Rattle.rules.proofs.Basics.{cases-bool, and-left, and-right, and-both, or-cases, or-false-left, or-false-right, true-false, bit-small, Every, every-append, map-append}
+use Rattle.rules.proofs.TableRules.{dab-named, pair-rules, set-rules}
 
 -- ---- the pairs
 
@@ -196,29 +197,6 @@ pub record PieceMeets (w named most : ℕ) (c : Piece) : Type 0 where
   pub kind : kindNamed named (c .qualifier) ≡ true
   pub begun : c .more ≡ false → 0 < length (c .numbers)
 
--- what the table rules say of a list's first pair and of the others
-meet-number : (w named : ℕ) (p : Pair) (ps : List Pair) → pairsMeet w named (p ∷ ps) ≡ true → p .number < 256 ^ w
-unfolding pairsMeet
-meet-number w named p ps h =
-    ltb-true (p .number) (256 ^ w)
-    (and-left (ltb (p .number) (256 ^ w)) (kindNamed named (p .kind))
-    (and-left (ltb (p .number) (256 ^ w) && kindNamed named (p .kind)) (pairsMeet w named ps) h))
-
-meet-kind : (w named : ℕ) (p : Pair) (ps : List Pair) → pairsMeet w named (p ∷ ps) ≡ true → kindNamed named (p .kind) ≡ true
-unfolding pairsMeet
-meet-kind w named p ps h =
-    and-right (ltb (p .number) (256 ^ w)) (kindNamed named (p .kind))
-    (and-left (ltb (p .number) (256 ^ w) && kindNamed named (p .kind)) (pairsMeet w named ps) h)
-
-meet-rest : (w named : ℕ) (p : Pair) (ps : List Pair) → pairsMeet w named (p ∷ ps) ≡ true → pairsMeet w named ps ≡ true
-unfolding pairsMeet
-meet-rest w named p ps h = and-right (ltb (p .number) (256 ^ w) && kindNamed named (p .kind)) (pairsMeet w named ps) h
-
--- kind 0 is always there
-dab-named : (named : ℕ) → kindNamed named 0 ≡ true
-unfolding kindNamed
-dab-named named = refl
-
 module _ (w named most : ℕ) (some' : 1 < most) where
   with-meets : (c : Piece) (p : Pair) → PieceMeets w named most c → goesOn most c p ≡ true → p .number < 256 ^ w
       → PieceMeets w named most (pieceWith true c p)
@@ -241,10 +219,10 @@ module _ (w named most : ℕ) (some' : 1 < most) where
   unfolding chop completed
   chop-meets c [] m h = (m, tt)
   chop-meets c (p ∷ ps) m h =
-      let n : p .number < 256 ^ w = meet-number w named p ps h in
-      let r : pairsMeet w named ps ≡ true = meet-rest w named p ps h in
+      let n : p .number < 256 ^ w = pair-rules w named p ps .0 h .number in
+      let r : pairsMeet w named ps ≡ true = pair-rules w named p ps .0 h .rest in
       let ending : Every (PieceMeets w named most) (chop most (pieceWith false c p) ps) =
-      chop-meets (pieceWith false c p) ps (new-meets c p (meet-kind w named p ps h) n) r in
+      chop-meets (pieceWith false c p) ps (new-meets c p (pair-rules w named p ps .0 h .kind) n) r in
       cases-bool (goesOn most c p)
       (λ e. rw e (chop-meets (pieceWith true c p) ps (with-meets c p m e n) r))
       (λ e. rw e (m, ending))
@@ -253,17 +231,17 @@ module _ (w named most : ℕ) (some' : 1 < most) where
   unfolding cut
   cut-meets [] h = tt
   cut-meets (p ∷ []) h =
-      (record { few = omega arith; within = (meet-number w named p [] h, tt); kind = dab-named named; begun = λ b. omega arith }, tt)
+      (record { few = omega arith; within = (pair-rules w named p [] .0 h .number, tt); kind = dab-named named; begun = λ b. omega arith }, tt)
   cut-meets (p ∷ (q ∷ qs)) h =
-      let r : pairsMeet w named (q ∷ qs) ≡ true = meet-rest w named p (q ∷ qs) h in
+      let r : pairsMeet w named (q ∷ qs) ≡ true = pair-rules w named p (q ∷ qs) .0 h .rest in
       chop-meets (record { more = false; qualifier = q .kind; numbers = p .number ∷ q .number ∷ [] }) qs
       (record {
         few = omega arith;
-        within = (meet-number w named p (q ∷ qs) h, (meet-number w named q qs r, tt));
-        kind = meet-kind w named q qs r;
+        within = (pair-rules w named p (q ∷ qs) .0 h .number, (pair-rules w named q qs .0 r .number, tt));
+        kind = pair-rules w named q qs .0 r .kind;
         begun = λ b. omega arith;
       })
-      (meet-rest w named q qs r)
+      (pair-rules w named q qs .0 r .rest)
 
   dead-meets : (k : ℕ) (b : Bool) (ps : List Pair) → (b ≡ true → kindNamed named k ≡ true) → Every (PieceMeets w named most) (deadLink k b ps)
   unfolding deadLink
@@ -330,7 +308,7 @@ first-dab : (w named : ℕ) (p : Pair) (ps : List Pair) → pairsMeet w named (p
     → hasKind drm (p ∷ ps) ≡ false → p .kind ≡ 0
 unfolding hasKind
 first-dab w named p ps h r d =
-    kind-dab named (p .kind) (meet-kind w named p ps h)
+    kind-dab named (p .kind) (pair-rules w named p ps .0 h .kind)
     (or-false-left (eqb (p .kind) rds) (hasKind rds ps) r) (or-false-left (eqb (p .kind) drm) (hasKind drm ps) d)
 
 rest-absent : (k : ℕ) (p : Pair) (ps : List Pair) → hasKind k (p ∷ ps) ≡ false → hasKind k ps ≡ false
@@ -346,12 +324,12 @@ cut-dab w named most (p ∷ []) m h r d = omega arith
 cut-dab w named most (p ∷ (q ∷ [])) m h r d = omega arith
 cut-dab w named most (p ∷ (q ∷ (s ∷ ss))) m h r d =
     let c : Piece = record { more = false; qualifier = q .kind; numbers = p .number ∷ q .number ∷ [] } in
-    let h1 : pairsMeet w named (q ∷ s ∷ ss) ≡ true = meet-rest w named p (q ∷ s ∷ ss) h in
+    let h1 : pairsMeet w named (q ∷ s ∷ ss) ≡ true = pair-rules w named p (q ∷ s ∷ ss) .0 h .rest in
     let r1 : hasKind rds (q ∷ s ∷ ss) ≡ false = rest-absent rds p (q ∷ s ∷ ss) r in
     let d1 : hasKind drm (q ∷ s ∷ ss) ≡ false = rest-absent drm p (q ∷ s ∷ ss) d in
     let a : q .kind ≡ 0 = first-dab w named q (s ∷ ss) h1 r1 d1 in
     let b : s .kind ≡ 0 =
-    first-dab w named s ss (meet-rest w named q (s ∷ ss) h1) (rest-absent rds q (s ∷ ss) r1) (rest-absent drm q (s ∷ ss) d1) in
+    first-dab w named s ss (pair-rules w named q (s ∷ ss) .0 h1 .rest) (rest-absent rds q (s ∷ ss) r1) (rest-absent drm q (s ∷ ss) d1) in
     let e : goesOn most c s ≡ true = goes-on most c s (b ∙ sym a) m in
     rw e (omega (arith, chop-count most (pieceWith true c s) ss))
 
@@ -456,11 +434,6 @@ named-drm k =
     (λ e. rw (eqb-true k rds e))
     (λ e. rw e (cases-bool (eqb k drm) (λ f. rw f) (λ f. rw f)))
 
-pub bit-small : (b : Bool) → bit b ≤ 1
-unfolding bit
-bit-small true = omega arith
-bit-small false = omega arith
-
 bit-or : (a b : Bool) → bit (a || b) ≡ max (bit a) (bit b)
 unfolding bit
 bit-or true true = refl
@@ -501,16 +474,16 @@ unfolding hasKind
 rds-named w named [] h e = true-false e refl
 rds-named w named (p ∷ ps) h e =
     or-cases (eqb (p .kind) rds) (hasKind rds ps) e
-    (λ f. rds-there named (p .kind) (meet-kind w named p ps h) f)
-    (λ f. rds-named w named ps (meet-rest w named p ps h) f)
+    (λ f. rds-there named (p .kind) (pair-rules w named p ps .0 h .kind) f)
+    (λ f. rds-named w named ps (pair-rules w named p ps .0 h .rest) f)
 
 drm-named : (w named : ℕ) (ps : List Pair) → pairsMeet w named ps ≡ true → hasKind drm ps ≡ true → eqb (named / 2) 1 ≡ true
 unfolding hasKind
 drm-named w named [] h e = true-false e refl
 drm-named w named (p ∷ ps) h e =
     or-cases (eqb (p .kind) drm) (hasKind drm ps) e
-    (λ f. drm-there named (p .kind) (meet-kind w named p ps h) f)
-    (λ f. drm-named w named ps (meet-rest w named p ps h) f)
+    (λ f. drm-there named (p .kind) (pair-rules w named p ps .0 h .kind) f)
+    (λ f. drm-named w named ps (pair-rules w named p ps .0 h .rest) f)
 
 -- there, or named without being there: named
 bit-named : (has : Bool) (n : ℕ) → n < 2 → (has ≡ true → eqb n 1 ≡ true) → max (bit has) (bit (eqb n 1 && not has)) ≡ n
@@ -542,47 +515,6 @@ pieces-named w most l f h n =
 
 -- ---- a set that meets the table rules
 
--- what the table rules say of a set
-pub record SetParts (k : ℕ) (l : IdSet) : Type 0 where
-  pub short : length (l .items) ≤ 128
-  pub first : firstIsDab (l .items) ≡ true
-  pub differ : allDiffer (l .items) ≡ true
-  pub pairs : pairsMeet (keyWidth k) (l .named) (l .items) ≡ true
-  pub names : l .named < 4
-  pub noName : k / 16384 % 2 ≡ 1 → l .named ≡ 0
-
-names-small : (k named : ℕ) → namesMeet k named ≡ true → named < 4
-unfolding namesMeet
-names-small k named h =
-    cases-bool (eqb (k / 16384 % 2) 1)
-    (λ e. omega (arith, eqb-true named 0 (rw e at h)))
-    (λ e. ltb-true named 4 (rw e at h))
-
-names-none : (k named : ℕ) → namesMeet k named ≡ true → k / 16384 % 2 ≡ 1 → named ≡ 0
-unfolding namesMeet
-names-none k named h e = eqb-true named 0 (rw (eq-eqb (k / 16384 % 2) 1 e) at h)
-
-pub set-parts : (k : ℕ) (l : IdSet) → setMeets k l ≡ true → SetParts k l
-unfolding setMeets
-set-parts k l h =
-    let a : Bool = leb (length (l .items)) 128 in
-    let b : Bool = firstIsDab (l .items) in
-    let c : Bool = allDiffer (l .items) in
-    let d : Bool = pairsMeet (keyWidth k) (l .named) (l .items) in
-    let e : Bool = namesMeet k (l .named) in
-    let h1 : (a && b && c && d) ≡ true = and-left (a && b && c && d) e h in
-    let h2 : (a && b && c) ≡ true = and-left (a && b && c) d h1 in
-    let h3 : (a && b) ≡ true = and-left (a && b) c h2 in
-    let n : namesMeet k (l .named) ≡ true = and-right (a && b && c && d) e h in
-    record {
-      short = leb-true (length (l .items)) 128 (and-left a b h3);
-      first = and-right a b h3;
-      differ = and-right (a && b) c h2;
-      pairs = and-right (a && b && c) d h1;
-      names = names-small k (l .named) n;
-      noName = names-none k (l .named) n;
-    }
-
 -- a piece has room for 6 identifiers at least, and 12 at most
 pub most-room : (w : ℕ) → 5 < pieceMost w
 unfolding pieceMost
@@ -595,6 +527,6 @@ most-small w = cases-bool (eqb w 4) (λ e. rw e (omega arith)) (λ e. rw e (case
 -- a set needs at most 128 pieces
 pub set-count : (k : ℕ) (l : IdSet) → setMeets k l ≡ true → length (pieces (pieceMost (keyWidth k)) l) ≤ 128
 set-count k l h =
-    let s : SetParts k l = set-parts k l h in
+    let s = set-rules k l .0 h in
     let m : 5 < pieceMost (keyWidth k) = most-room (keyWidth k) in
     pieces-count (keyWidth k) (pieceMost (keyWidth k)) l (omega arith) (s .short) (s .pairs)

@@ -1,25 +1,26 @@
--- What is written for air reads back (document 01, Writing for air; demand 2). In order: what a piece's field says; a list to
--- which different pairs are added; the blocks of a set read into a content, one field after the other; the whole output read
--- once into the empty content, and then again; and the theorems: the sets are shown again, every block is taken, the length.
+-- What is written for air reads back (document 01, Writing for air; demand 2). In order: what a piece's field says; the blocks
+-- of a set read into a content, one field after the other; the whole output read once into the empty content, and then again;
+-- and the theorems: the sets are shown again, every block is taken, the length.
 use Prim.Native.Nat.{ℕ, zero, suc, _+_, _*_, _/_, _%_, _≤_, _<_}
 use native.Mathlib.Omega.{arith}
 use mathlib.Core.Path.{_≡_, refl, sym, ap, _∙_}
-use mathlib.Core.Bool.{Bool, true, false, not, cond, _&&_}
+use mathlib.Core.Bool.{Bool, true, false, cond}
 use mathlib.Core.List.{List, [], _∷_, _++_, map, append-assoc, append-nil}
 use mathlib.Core.Option.{Option, none, some}
 use lib.ListN.{length, take, drop, length-append}
 use lib.Seq.{take-at, drop-at, drop-append-add}
-use lib.Dec.{leb, ltb, eqb}
-use borrow.Author.Tests.{ltb-true, leb-true, eqb-false, lt-ltb, eq-eqb, ne-eqb, le-ltb, le-leb, not-true}
+use lib.Dec.{ltb, eqb}
+use borrow.Author.Tests.{ltb-true, eqb-false, lt-ltb, eq-eqb, ne-eqb, le-ltb, le-leb}
 use Rattle.rules.specs.Block.{bit}
-use Rattle.rules.specs.Field.{Field, keyOf, Pair, firstKind, pairsOf, namedBy, hasList, isContinuation}
-use Rattle.rules.specs.Family.{Act, start, continuation, Said, member, added, addedAll, opening, extended, entryWith, started, continued, onHeld, fresh, onUnheld, kept, effect, find, replace, insert, store, step, steps}
-use Rattle.rules.specs.Collecting.{linkage, samePair, joinNames, IdSet, Held, Content, brings, actOf, said, keyWidth, allDiffer, setMeets, ifThere, entryMeets, ascends, entriesMeet, meets, Shown, showing, shownSets}
+use Rattle.rules.specs.Field.{Field, keyOf, firstKind, pairsOf, namedBy, hasList, isContinuation}
+use Rattle.rules.specs.Family.{Act, start, continuation, Said, opening, extended, entryWith, started, continued, onHeld, fresh, onUnheld, kept, effect, find, replace, insert, store, step, steps}
+use Rattle.rules.specs.Collecting.{linkage, joinNames, IdSet, Held, Content, brings, actOf, said, keyWidth, allDiffer, setMeets, ifThere, entryMeets, ascends, entriesMeet, meets, Shown, showing, shownSets}
 use Rattle.rules.specs.Outcomes.{verdict, taken, answerTo, readBlock, readBlocks, readRecording, leftOver}
 use Rattle.rules.specs.Air.{Piece, pieceMost, pieces, figBytes, blockOf, blocksOf, setBlocks, allBlocks, air}
-use Rattle.rules.proofs.Basics.{cases-bool, cases-option, and-left, and-right, or-false-left, or-false-right, Every, every-append, every-imp, eqb-sym}
-use Rattle.rules.proofs.AirPieces.{Below, piecePairs, flat, flat-pieces, IsMore, Shape, pieces-shape, PieceMeets, pieces-meet, SetParts, set-parts, most-room, set-count, join-assoc, join-to-zero, piecesNamed, pieces-named}
-use Rattle.rules.proofs.AirBlock.{fieldOf, block-length, fig-length, kind-small, verdict-back, piece-bytes}
+use Rattle.rules.proofs.Basics.{cases-bool, cases-option, and-left, and-right, Every, every-append, every-imp}
+use Rattle.rules.proofs.TableRules.{kind-small, names-small, names-none, differ-left, added-all, SetRules, set-rules, entry-rules, table-rules, shown-few}
+use Rattle.rules.proofs.AirPieces.{Below, piecePairs, flat, flat-pieces, IsMore, Shape, pieces-shape, PieceMeets, pieces-meet, most-room, set-count, join-assoc, join-to-zero, piecesNamed, pieces-named}
+use Rattle.rules.proofs.AirBlock.{fieldOf, block-length, verdict-back, piece-bytes}
 
 -- ---- what a piece's field says
 
@@ -62,55 +63,6 @@ act-back k on c = cases-bool (c .more) (λ e. rw e) (λ e. rw e)
 pub said-back : (k : ℕ) (on : Bool) (c : Piece) → k < 65536 → said (fieldOf k on c) ≡ saidOf k on c
 unfolding said saidOf fieldOf
 said-back k on c h = λ i. record { key = key-back k on c h i; state = state-back on i; act = act-back k on c i }
-
--- ---- adding different pairs
-
-same-swap : (p q : Pair) → samePair p q ≡ samePair q p
-unfolding samePair
-same-swap p q = rw (eqb-sym (p .kind) (q .kind), eqb-sym (p .number) (q .number))
-
--- what is not in a list is not in its front, and is not its next
-absent-left : (p : Pair) (xs ys : List Pair) → member linkage p (xs ++ ys) ≡ false → member linkage p xs ≡ false
-unfolding member
-absent-left p [] ys h = refl
-absent-left p (x ∷ xs) ys h =
-    let a : samePair p x ≡ false = or-false-left (samePair p x) (member linkage p (xs ++ ys)) h in
-    rw a (absent-left p xs ys (or-false-right (samePair p x) (member linkage p (xs ++ ys)) h))
-
-absent-next : (p y : Pair) (xs ys : List Pair) → member linkage p (xs ++ y ∷ ys) ≡ false → samePair p y ≡ false
-unfolding member
-absent-next p y [] ys h = or-false-left (samePair p y) (member linkage p ys) h
-absent-next p y (x ∷ xs) ys h = absent-next p y xs ys (or-false-right (samePair p x) (member linkage p (xs ++ y ∷ ys)) h)
-
-differ-first : (p : Pair) (ps : List Pair) → allDiffer (p ∷ ps) ≡ true → member linkage p ps ≡ false
-unfolding allDiffer
-differ-first p ps h = not-true (member linkage p ps) (and-left (not (member linkage p ps)) (allDiffer ps) h)
-
-differ-rest : (p : Pair) (ps : List Pair) → allDiffer (p ∷ ps) ≡ true → allDiffer ps ≡ true
-unfolding allDiffer
-differ-rest p ps h = and-right (not (member linkage p ps)) (allDiffer ps) h
-
-differ-left : (xs ys : List Pair) → allDiffer (xs ++ ys) ≡ true → allDiffer xs ≡ true
-unfolding allDiffer
-differ-left [] ys h = refl
-differ-left (x ∷ xs) ys h =
-    rw (absent-left x xs ys (differ-first x (xs ++ ys) h)) (differ-left xs ys (differ-rest x (xs ++ ys) h))
-
--- of different pairs the next is not in the front
-differ-next : (xs : List Pair) (y : Pair) (ys : List Pair) → allDiffer (xs ++ y ∷ ys) ≡ true → member linkage y xs ≡ false
-unfolding member
-differ-next [] y ys h = refl
-differ-next (x ∷ xs) y ys h =
-    let a : samePair x y ≡ false = absent-next x y xs ys (differ-first x (xs ++ y ∷ ys) h) in
-    rw (same-swap y x, a) (differ-next xs y ys (differ-rest x (xs ++ y ∷ ys) h))
-
--- different pairs are added one after the other
-pub added-all : (xs ys : List Pair) → allDiffer (xs ++ ys) ≡ true → addedAll linkage xs ys ≡ xs ++ ys
-unfolding addedAll added
-added-all xs [] h = sym (append-nil xs)
-added-all xs (y ∷ ys) h =
-    let e : xs ++ (y ∷ []) ++ ys ≡ xs ++ y ∷ ys = append-assoc xs (y ∷ []) ys in
-    rw (differ-next xs y ys h) (added-all (xs ++ y ∷ []) ys (rw e h) ∙ e)
 
 -- ---- one key's entry in a content
 
@@ -242,7 +194,7 @@ module _ (k : ℕ) (on : Bool) (pre : Content) (low : KeysBelow k pre) where
 unfoldable pub piecesFor : ℕ → IdSet → List Piece
 piecesFor k l = pieces (pieceMost (keyWidth k)) l
 
-module _ (k : ℕ) (l : IdSet) (parts : SetParts k l) where
+module _ (k : ℕ) (l : IdSet) (parts : SetRules k l) where
   shape-of : Shape false (piecesFor k l)
   unfolding piecesFor
   shape-of = pieces-shape (pieceMost (keyWidth k)) l (parts .first)
@@ -253,7 +205,7 @@ module _ (k : ℕ) (l : IdSet) (parts : SetParts k l) where
 
   names-back : joinNames (namedBy (shape-of .first .qualifier)) (piecesNamed (shape-of .others)) ≡ l .named
   unfolding piecesFor piecesNamed
-  names-back = ap piecesNamed (sym (shape-of .made)) ∙ pieces-named (keyWidth k) (pieceMost (keyWidth k)) l (parts .first) (parts .pairs) (parts .names)
+  names-back = ap piecesNamed (sym (shape-of .made)) ∙ pieces-named (keyWidth k) (pieceMost (keyWidth k)) l (parts .first) (parts .pairs) (names-small k (l .named) (parts .names))
 
   -- a start's list and the continuations make the set
   whole-back : collected (bringsOf (shape-of .first)) (shape-of .others) ≡ l
@@ -352,7 +304,7 @@ module _ (k named : ℕ) (on : Bool) (small : k < 65536) (lsn : k % 4096 ≡ 0 �
       (taken-first b (blocksOf k on cs ++ rest) (fieldOf k on c) (block-length (figBytes k on c)) (verdict-back k named c lsn (m .0) none' on)
       (taken-pieces cs rest (m .1) h))
 
-blocks-length : (k : ℕ) (on : Bool) (cs : List Piece) → length (blocksOf k on cs) ≡ 32 * length cs
+pub blocks-length : (k : ℕ) (on : Bool) (cs : List Piece) → length (blocksOf k on cs) ≡ 32 * length cs
 unfolding blocksOf
 blocks-length k on [] = refl
 blocks-length k on (c ∷ cs) =
@@ -370,13 +322,7 @@ pieces-sent : (s : Shown) → Sendable s
 unfolding piecesFor
 pieces-sent s h =
     pieces-meet (keyWidth (s .key)) (pieceMost (keyWidth (s .key))) (s .set) (omega (arith, most-room (keyWidth (s .key))))
-    (set-parts (s .key) (s .set) (h .right) .pairs)
-
--- every FIG of a set has 29 bytes at most
-pub set-figs : (s : Shown) → Sendable s → Every (λ (c : Piece). length (figBytes (s .key) (s .on) c) ≤ 29) (piecesFor (s .key) (s .set))
-set-figs s h =
-    every-imp (PieceMeets (keyWidth (s .key)) (s .set .named) (pieceMost (keyWidth (s .key)))) (λ (c : Piece). length (figBytes (s .key) (s .on) c) ≤ 29)
-    (λ c m. fig-length (s .key) (s .on) c (m .few)) (piecesFor (s .key) (s .set)) (pieces-sent s h)
+    (set-rules (s .key) (s .set) .0 (h .right) .pairs)
 
 -- a set's blocks are made of bytes
 set-bytes : (s : Shown) → Sendable s → Below 256 (setBlocks s)
@@ -388,13 +334,13 @@ read-set : (s : Shown) (t : Content) (rest : List ℕ) → Sendable s
     → readRecording t (setBlocks s ++ rest) ≡ readRecording (steps linkage t (map (saidOf (s .key) (s .on)) (piecesFor (s .key) (s .set))) .0) rest
 unfolding setBlocks piecesFor
 read-set s t rest h =
-    read-pieces (s .key) (s .set .named) (s .on) (h .small) (h .lsn) (set-parts (s .key) (s .set) (h .right) .noName) t
+    read-pieces (s .key) (s .set .named) (s .on) (h .small) (h .lsn) (names-none (s .key) (s .set .named) (set-rules (s .key) (s .set) .0 (h .right) .names)) t
     (piecesFor (s .key) (s .set)) rest (pieces-sent s h)
 
 taken-set : (s : Shown) (rest : List ℕ) → Sendable s → EachTaken rest → EachTaken (setBlocks s ++ rest)
 unfolding setBlocks piecesFor
 taken-set s rest h g =
-    taken-pieces (s .key) (s .set .named) (s .on) (h .small) (h .lsn) (set-parts (s .key) (s .set) (h .right) .noName)
+    taken-pieces (s .key) (s .set .named) (s .on) (h .small) (h .lsn) (names-none (s .key) (s .set .named) (set-rules (s .key) (s .set) .0 (h .right) .names))
     (piecesFor (s .key) (s .set)) rest (pieces-sent s h) g
 
 -- a set's blocks take 4,096 bytes at most
@@ -439,7 +385,7 @@ first-pass pre last (s ∷ ss) rest o k n =
     ap (λ (x : List ℕ). readRecording pre x) (append-assoc (setBlocks s) (allBlocks ss) rest)
     ∙ read-set s pre (allBlocks ss ++ rest) (o .1)
     ∙ ap (λ (t : Content). readRecording t (allBlocks ss ++ rest))
-    (steps-new (s .key) (s .set) (set-parts (s .key) (s .set) (o .1 .right)) (s .on) pre low (omega arith))
+    (steps-new (s .key) (s .set) (set-rules (s .key) (s .set) .0 (o .1 .right)) (s .on) pre low (omega arith))
     ∙ first-pass (pre ++ opened s ∷ []) (s .key) ss rest (o .2) (keys-next pre (opened s) low) (omega (arith, length-append pre (opened s ∷ [])))
     ∙ ap (λ (t : Content). readRecording t rest) (append-assoc pre (opened s ∷ []) (map opened ss))
 
@@ -454,7 +400,7 @@ second-pass pre last (s ∷ ss) rest o k =
     ap (λ (x : List ℕ). readRecording t x) (append-assoc (setBlocks s) (allBlocks ss) rest)
     ∙ read-set s t (allBlocks ss ++ rest) (o .1)
     ∙ ap (λ (x : Content). readRecording x (allBlocks ss ++ rest))
-    (steps-again (s .key) (s .set) (set-parts (s .key) (s .set) (o .1 .right)) (s .on) pre low (map opened ss) (s .on) none (s .set)
+    (steps-again (s .key) (s .set) (set-rules (s .key) (s .set) .0 (o .1 .right)) (s .on) pre low (map opened ss) (s .on) none (s .set)
     ∙ sym (append-assoc pre (again s ∷ []) (map opened ss)))
     ∙ second-pass (pre ++ again s ∷ []) (s .key) ss rest (o .2) (keys-next pre (again s) low)
     ∙ ap (λ (x : Content). readRecording x rest) (append-assoc pre (again s ∷ []) (map again ss))
@@ -491,23 +437,17 @@ unfolding shownSets showing again entry
 shown-again [] = refl
 shown-again (s ∷ ss) = ap (λ (r : List Shown). s ∷ r) (shown-again ss)
 
-if-there : (k : ℕ) (o : Option IdSet) (l : IdSet) → o ≡ some l → ifThere k o ≡ true → setMeets k l ≡ true
+if-shown : (k : ℕ) (o : Option IdSet) (l : IdSet) → o ≡ some l → ifThere k o ≡ true → setMeets k l ≡ true
 unfolding ifThere
-if-there k o l e h = rw e at h
+if-shown k o l e h = rw e at h
 
 sendable : (e : Held) (l : IdSet) → entryMeets e ≡ true → e .shown ≡ some l → Sendable (record { key = e .key; on = e .state; set = l })
-unfolding entryMeets
 sendable e l h g =
-    let a : Bool = ltb (e .key) 65536 in
-    let b : Bool = not (eqb (e .key % 4096) 0) in
-    let c : Bool = ifThere (e .key) (e .shown) in
-    let d : Bool = ifThere (e .key) (e .draft) in
-    let h1 : (a && b && c) ≡ true = and-left (a && b && c) d h in
-    let h2 : (a && b) ≡ true = and-left (a && b) c h1 in
+    let r = entry-rules e .0 h in
     record {
-      small = ltb-true (e .key) 65536 (and-left a b h2);
-      lsn = eqb-false (e .key % 4096) 0 (not-true (eqb (e .key % 4096) 0) (and-right a b h2));
-      right = if-there (e .key) (e .shown) l g (and-right (a && b) c h1);
+      small = r .below;
+      lsn = eqb-false (e .key % 4096) 0 (r .numbered);
+      right = if-shown (e .key) (e .shown) l g (r .shown);
     }
 
 content-order : (last : ℕ) (t : Content) → ascends last t ≡ true → entriesMeet t ≡ true → InOrder last (shownSets t)
@@ -521,36 +461,19 @@ content-order last (e ∷ es) a m =
     (λ g. rw g (order-lower last (e .key) (shownSets es) (omega arith) rest))
     (λ l g. rw g (up, sendable e l (and-left (entryMeets e) (entriesMeet es) m) g, rest))
 
-shown-count : (t : Content) → length (shownSets t) ≤ length t
-unfolding shownSets showing
-shown-count [] = omega arith
-shown-count (e ∷ es) =
-    let rest : length (shownSets es) ≤ length es = shown-count es in
-    cases-option (e .shown) (λ g. rw g (omega arith)) (λ l g. rw g (omega arith))
-
 -- what the table rules say of a content's shown sets
 shown-order : (t : Content) → meets t ≡ true → InOrder 0 (shownSets t)
-unfolding meets
-shown-order t h =
-    let a : Bool = leb (length t) 32 in
-    let b : Bool = ascends 0 t in
-    let c : Bool = entriesMeet t in
-    content-order 0 t (and-right a b (and-left (a && b) c h)) (and-right (a && b) c h)
+shown-order t h = let r = table-rules t .0 h in content-order 0 t (r .ascend) (r .entries)
 
-shown-few : (t : Content) → meets t ≡ true → length (shownSets t) ≤ 32
-unfolding meets
-shown-few t h =
-    let a : Bool = leb (length t) 32 in
-    let b : Bool = ascends 0 t in
-    let c : Bool = entriesMeet t in
-    omega (arith, shown-count t, leb-true (length t) 32 (and-left a b (and-left (a && b) c h)))
+shown-most : (t : Content) → meets t ≡ true → length (shownSets t) ≤ 32
+shown-most t h = omega (arith, shown-few t, table-rules t .0 h .short)
 
 -- ---- the theorems
 
 -- the output in front of a recording, read into the empty content: each shown set is the open list of its key
 air-front : (t : Content) (rest : List ℕ) → meets t ≡ true → readRecording [] (air t ++ rest) ≡ readRecording (map opened (shownSets t)) rest
 unfolding air
-air-front t rest h = first-pass [] 0 (shownSets t) rest (shown-order t h) tt (omega (arith, shown-few t h))
+air-front t rest h = first-pass [] 0 (shownSets t) rest (shown-order t h) tt (omega (arith, shown-most t h))
 
 -- read into what that leaves: each is shown too
 air-next : (t : Content) (rest : List ℕ) → meets t ≡ true → readRecording (map opened (shownSets t)) (air t ++ rest) ≡ readRecording (map again (shownSets t)) rest
@@ -596,7 +519,7 @@ air-whole t = all-blocks-whole (shownSets t)
 
 pub air-length : (t : Content) → meets t ≡ true → length (air t) ≤ 131072
 unfolding air
-air-length t h = omega (arith, all-blocks-length 0 (shownSets t) (shown-order t h), shown-few t h)
+air-length t h = omega (arith, all-blocks-length 0 (shownSets t) (shown-order t h), shown-most t h)
 
 -- it is made of bytes
 pub air-bytes : (t : Content) → meets t ≡ true → Below 256 (air t)

@@ -1,18 +1,19 @@
--- Small general facts that the other files of proofs/ share, in this order: deciding a Bool, an option or a list with its
--- equation; `&&`, `||` and `not`; the tests on numbers as equations; something said of every element of a list, or of
--- what an option holds; `map`.
-use Prim.Native.Nat.{ℕ, zero, suc}
+-- Small general facts that the other files of proofs/ share, in this order: deciding a Bool or an option with its equation;
+-- `&&`, `||` and `not`; choices; the tests on numbers as equations; something said of every element of a list, or of what an
+-- option holds; `map`.
+use Prim.Native.Nat.{ℕ, zero, suc, _≤_, _<_}
 use native.Mathlib.Omega.{arith}
-use mathlib.Core.Path.{_≡_, refl, sym, _∙_, ap, subst}
+use mathlib.Core.Path.{_≡_, refl, sym, _∙_}
 use mathlib.Core.Logic.{_↔_}
 use mathlib.Core.Bool.{Bool, true, false, not, cond, _&&_, _||_}
 use mathlib.Core.List.{List, [], _∷_, _++_, map}
 pub use mathlib.Core.List.{map-append, map-map}
 use mathlib.Core.Option.{Option, none, some}
-use lib.ListN.{getD, take, drop}
+use lib.ListN.{length, getD, take, drop, length-map}
 use lib.Dec.{ltb, eqb}
-use borrow.Author.Tests.{ltb-true, ltb-false, eqb-true, eqb-false, lt-ltb, le-ltb, eq-eqb, ne-eqb}
+use borrow.Author.Tests.{ltb-true, ltb-false, eqb-false, lt-ltb, le-ltb, eq-eqb}
 pub use borrow.Author.Tests.{not-true}
+use Rattle.rules.specs.Block.{bit}
 
 -- ---- deciding
 
@@ -23,10 +24,6 @@ cases-bool false t f = f refl
 pub cases-option {ℓ} : {A : Type 0} {C : Type ℓ} (o : Option A) → (o ≡ none → C) → ((a : A) → o ≡ some a → C) → C
 cases-option none n s = n refl
 cases-option (some a) n s = s a refl
-
-pub cases-list {ℓ} : {A : Type 0} {C : Type ℓ} (l : List A) → (l ≡ [] → C) → ((a : A) (r : List A) → l ≡ a ∷ r → C) → C
-cases-list [] n c = n refl
-cases-list (a ∷ r) n c = c a r refl
 
 pub true-false {ℓ} : {C : Type ℓ} {b : Bool} → b ≡ true → b ≡ false → C
 true-false {C} {b} p q = let z : _≡_ {A = ℕ} 0 1 = cc in absurd (omega arith)
@@ -46,9 +43,6 @@ and-right false b e = true-false e refl
 
 pub and-both : (a b : Bool) → a ≡ true → b ≡ true → (a && b) ≡ true
 and-both a b p q = rw (p, q)
-
-pub and-false-left : (a b : Bool) → a ≡ false → (a && b) ≡ false
-and-false-left a b p = rw p
 
 pub or-left : (a b : Bool) → a ≡ true → (a || b) ≡ true
 or-left a b p = rw p
@@ -123,6 +117,15 @@ pub cond-cases {ℓ} : {A : Type 0} (P : A → Type ℓ) (b : Bool) (x y : A) �
 cond-cases P true x y p q = p refl
 cond-cases P false x y p q = q refl
 
+-- a choice that came out as something else than its first part was decided against it, and than its second part, for it
+pub not-first : {A : Type 0} (b : Bool) {x y v : A} → (x ≡ v → ⊥) → cond b x y ≡ v → (b ≡ false) × (y ≡ v)
+not-first true other e = absurd (other e)
+not-first false other e = (refl, e)
+
+pub not-second : {A : Type 0} (b : Bool) {x y v : A} → (y ≡ v → ⊥) → cond b x y ≡ v → (b ≡ true) × (x ≡ v)
+not-second true other e = (refl, e)
+not-second false other e = absurd (other e)
+
 -- a function of a picked value
 pub cond-ap : {A B : Type 0} (g : A → B) (b : Bool) (x y : A) → g (cond b x y) ≡ cond b (g x) (g y)
 cond-ap g true x y = refl
@@ -141,14 +144,13 @@ cond-order false false x y z h = refl
 
 -- ---- the tests on numbers, as equations
 
+pub bit-small : (b : Bool) → bit b ≤ 1
+unfolding bit
+bit-small true = omega arith
+bit-small false = omega arith
+
 pub eqb-self : (n : ℕ) → eqb n n ≡ true
 eqb-self n = eq-eqb n n refl
-
-pub eqb-sym : (m n : ℕ) → eqb m n ≡ eqb n m
-eqb-sym m n =
-    cases-bool (eqb m n)
-    (λ e. e ∙ sym (eq-eqb n m (sym (eqb-true m n e))))
-    (λ e. e ∙ sym (ne-eqb n m (λ q. eqb-false m n e (sym q))))
 
 pub ltb-self : (n : ℕ) → ltb n n ≡ false
 ltb-self n = le-ltb n n (omega arith)
@@ -213,17 +215,10 @@ pub every-map : {A B : Type 0} (P : B → Type 0) (g : A → B) (xs : List A) �
 every-map P g [] e = tt
 every-map P g (x ∷ xs) e = (e .0, every-map P g xs (e .1))
 
-pub every-unmap : {A B : Type 0} (P : B → Type 0) (g : A → B) (xs : List A) → Every P (map g xs) → Every (λ x. P (g x)) xs
-every-unmap P g [] e = tt
-every-unmap P g (x ∷ xs) e = (e .0, every-unmap P g xs (e .1))
-
 -- something said of what an option holds, if it holds something
 abbrev pub Within : {A : Type 0} → (A → Type 0) → Option A → Type 0
 Within P none = Unit {0}
 Within P (some x) = P x
-
-pub within-some : {A : Type 0} (P : A → Type 0) (o : Option A) (x : A) → o ≡ some x → Within P o → P x
-within-some P o x e h = subst (Within P) e h
 
 pub within-if : {A : Type 0} (P : A → Type 0) (o : Option A) → ((x : A) → o ≡ some x → P x) → Within P o
 within-if P none h = tt
@@ -235,7 +230,12 @@ within-imp P Q h (some x) e = h x e
 
 -- ---- lists
 
--- two functions that agree on every element
-pub map-same : {A B : Type 0} (g h : A → B) (xs : List A) → Every (λ x. g x ≡ h x) xs → map g xs ≡ map h xs
-map-same g h [] e = refl
-map-same g h (x ∷ xs) e = rw (e .0) (ap (_∷_ (h x)) (map-same g h xs (e .1)))
+-- an array of structs stands in what a function knows under a `map`
+pub length-of-map : {A B : Type 0} (g : A → B) (xs : List A) (n : ℕ) → length (map g xs) ≡ n → length xs ≡ n
+length-of-map g xs n e = sym (length-map xs g) ∙ e
+
+-- a value of a mapped list, within it, whatever stands for those past the end
+pub getD-map : {A B : Type 0} (g : A → B) (xs : List A) (i : ℕ) (d : B) (e : A) → i < length xs → getD (map g xs) i d ≡ g (getD xs i e)
+getD-map g [] i d e h = absurd (omega arith)
+getD-map g (x ∷ xs) zero d e h = refl
+getD-map g (x ∷ xs) (suc i) d e h = getD-map g xs i d e (omega arith)

@@ -19,7 +19,8 @@ use Rattle.rules.specs.Demand3.{heldKeys, startedKeys, among, ShowsIn, O
 use Rattle.rules.proofs.Basics.{Every, every-left, every-right}
 use Rattle.rules.proofs.FamilyLaws.{Ascends, every-keys}
 use Rattle.rules.proofs.Runs.{Op, takes, refuses, ignores, forgets, afterOp, startedOp, ascends-op, fits-op, starts-in, starts-in-op, among-self, StartIn, InFields, Fits}
-use Rattle.rules.proofs.LinkageLaws.{lawful, table-meets, answer-refused}
+use Rattle.rules.proofs.TableRules.{lawful, table-meets}
+use Rattle.rules.proofs.LinkageLaws.{answer-refused}
 use Rattle.rules.proofs.Leads.{Leads, leads-self, leads-steps, leads-dropped, leads-forget, shows-noted, noted-shows, shows-single, leads-shows-in}
 
 -- ---- an operation as one of the family's

@@ -62,25 +62,10 @@ module _ (F : Family) where
   effect-key r f none h = onUnheld-key r (f .key) (f .state) (f .act)
   effect-key r f (some e) h = onHeld-key e (f .state) (f .act) ∙ h
 
-  -- what is held of a key stays held
-  pub effect-held : (r : Bool) (f : Said F) (e : Entry F) → effect F r f (some e) .0 ≡ some (onHeld F e (f .state) (f .act) .0)
-  unfolding effect kept
-  effect-held r f e = refl
-
   -- the note of a field is its effect's
   pub note-step : (t : List (Entry F)) (f : Said F) → step F t f .1 ≡ effect F (ltb (length t) room) f (find F (f .key) t) .1
   unfolding step
   note-step t f = refl
-
-  pub left-step : (t : List (Entry F)) (f : Said F)
-      → step F t f .0 ≡ store F (find F (f .key) t) (effect F (ltb (length t) room) f (find F (f .key) t) .0) t
-  unfolding step
-  left-step t f = refl
-
-  -- a field, and the fields after it
-  pub steps-first : (t : List (Entry F)) (f : Said F) (fs : List (Said F)) → steps F t (f ∷ fs) .0 ≡ steps F (step F t f .0) fs .0
-  unfolding steps
-  steps-first t f fs = refl
 
   -- one note a field
   pub steps-notes : (t : List (Entry F)) (fs : List (Said F)) → length (steps F t fs .1) ≡ length fs
@@ -116,9 +101,6 @@ module _ (F : Family) (L : Lawful F) where
       cases-bool (sameKey k l)
       (λ e. true-false (subst (λ (x : Key). keyBefore k x ≡ true) (sym (L .same-is k l e)) h) (L .before-self k))
       (λ e. e)
-
-  pub before-flip : (k l : Key) → keyBefore k l ≡ true → keyBefore l k ≡ false
-  before-flip k l h = cases-bool (keyBefore l k) (λ e. true-false (L .before-trans k l k h e) (L .before-self k)) (λ e. e)
 
   -- what is found under a key has that key
   pub find-key : (k : Key) (t : List (Entry F)) (e : Entry F) → find F k t ≡ some e → e .key ≡ k
@@ -505,6 +487,11 @@ module _ (F : Family) where
   member-append x [] ys = refl
   member-append x (z ∷ zs) ys =
       cases-bool (sameItem x z) (λ s. rw s) (λ s. rw s (member-append x zs ys))
+
+  pub different-left : (xs ys : List Item) → Different (xs ++ ys) → Different xs
+  different-left [] ys d = tt
+  different-left (x ∷ xs) ys d =
+      (or-false-left (member F x xs) (member F x ys) (sym (member-append x xs ys) ∙ d .0), different-left xs ys (d .1))
 
   -- what is added comes at the end
   pub added-grows : (xs : List Item) (x : Item) → (r : List Item) × (added F xs x ≡ xs ++ r)

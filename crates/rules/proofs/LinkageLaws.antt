@@ -1,187 +1,26 @@
--- The laws of collecting for linkage sets. In this order: the tests of linkage are lawful; the table rules taken apart, entry by
--- entry and list by list; a field of a taken block brings lists that meet them; so reading blocks of bytes and forgetting keep
--- the table rules; refused blocks; outcomes; recordings.
+-- The laws of collecting for linkage sets. In this order: names of two lists together; a field of a taken block brings lists that
+-- meet the table rules; so reading blocks of bytes and forgetting keep them; refused blocks; outcomes; recordings.
 use Prim.Native.Nat.{ℕ, zero, suc, _+_, _*_, _/_, _%_, _^_, _≤_, _<_, max}
 use native.Mathlib.Omega.{arith}
 use mathlib.Core.Path.{_≡_, refl, sym, _∙_, ap, subst}
-use mathlib.Core.Logic.{_↔_}
-use mathlib.Core.Bool.{Bool, true, false, not, cond, _&&_, _||_}
+use mathlib.Core.Bool.{Bool, true, false, cond, _&&_, _||_}
 use mathlib.Core.List.{List, [], _∷_, _++_, map}
 use mathlib.Core.Option.{Option, none, some}
 use lib.ListN.{length, getD, take, drop, length-append, length-drop, length-map}
 use lib.Seq.{take-append-le, drop-append-le}
-use lib.Dec.{leb, ltb, eqb}
-use borrow.Author.Tests.{ltb-true, ltb-false, leb-true, eqb-true, eqb-false, lt-ltb, le-leb, eq-eqb, ne-eqb}
+use lib.Dec.{ltb, eqb}
+use borrow.Author.Tests.{ltb-true, eqb-true, eqb-false, lt-ltb, eq-eqb, ne-eqb}
 use Rattle.rules.specs.declared.Outcome.{Outcome}
 use Rattle.rules.specs.declared.Outcome.the-variants.{Done, NotABlock}
 use Rattle.rules.specs.Block.{Walk, whole, broken, Fig, figs, checkHolds}
 use Rattle.rules.specs.Field.{Field, keyOf, Pair, pair, pairsOf, startPairs, firstKind, namedBy, hasList, isContinuation, width, dab, rds, drm, wrongValue, emptyStart}
-use Rattle.rules.specs.Family.{start, continuation, noList, member, addedAll, opening, extended, entryWith, steps, closed, dropOpen, forget}
-use Rattle.rules.specs.Collecting.{samePair, joinNames, linkage, IdSet, Held, Content, brings, actOf, said, keyWidth, allDiffer, firstIsDab, kindNamed, pairsMeet, namesMeet, setMeets, ifThere, entryMeets, ascends, entriesMeet, meets, Shown, showing, shownSets}
+use Rattle.rules.specs.Family.{start, continuation, noList, addedAll, opening, extended, entryWith, steps, closed, dropOpen, forget}
+use Rattle.rules.specs.Collecting.{joinNames, linkage, IdSet, Held, Content, brings, actOf, said, keyWidth, firstIsDab, kindNamed, namesMeet, meets, Shown, showing, shownSets}
 use Rattle.rules.specs.Outcomes.{numberOf, Verdict, taken, refused, noBlock, judgeFields, judgeFigs, verdict, Answer, answerTo, readBlock, readBlocks, readRecording, leftOver, allFields, some?}
-use Rattle.rules.specs.Demand3.{heldKeys}
-use Rattle.rules.proofs.Basics.{cases-bool, true-false, and-left, and-right, and-both, and-three, and-four, and-five, or-left, or-right, or-cases, not-true, true-not, cond-cases, cond-both, eqb-self, ltb-self, ltb-trans, ltb-or, Every, every-imp, every-both, every-map, every-from, every-take, every-drop, Within}
-use Rattle.rules.proofs.FamilyLaws.{Lawful, Keeps, After, Ascends, Different, keys-every, Lists, Brings, keeps-key, every-steps, every-forget, every-drop-open, room-steps, length-drop-open, length-forget, ascends-steps, ascends-drop-open, ascends-forget, after-through, different-addedAll, addedAll-first, opening-first, length-addedAll, every-addedAll, lists-steps, lists-closed, steps-notes}
+use Rattle.rules.proofs.Basics.{cases-bool, true-false, and-left, and-right, and-both, or-left, or-right, or-cases, cond-cases, cond-both, Every, every-imp, every-both, every-map, every-from, every-take, every-drop}
+use Rattle.rules.proofs.FamilyLaws.{Keeps, Lists, Brings, keeps-key, every-steps, every-forget, every-drop-open, room-steps, length-drop-open, length-forget, ascends-steps, ascends-drop-open, ascends-forget, different-addedAll, addedAll-first, opening-first, length-addedAll, every-addedAll, lists-steps, lists-closed, steps-notes}
+use Rattle.rules.proofs.TableRules.{lawful, dab-named, names-small, PairMeets, SetMeets, KeyMeets, EntryMeets, Meets, table-meets}
 use Rattle.rules.proofs.Taken.{Bytes, FieldBits, GoodField, taken-good, taken-few}
-
--- ---- the tests of linkage
-
-pub pair-is : (p q : Pair) → samePair p q ≡ true → p ≡ q
-unfolding samePair
-pair-is p q h =
-    let k = eqb-true (p .kind) (q .kind) (and-left (eqb (p .kind) (q .kind)) (eqb (p .number) (q .number)) h) in
-    let n = eqb-true (p .number) (q .number) (and-right (eqb (p .kind) (q .kind)) (eqb (p .number) (q .number)) h) in
-    λ i. record { kind = k i; number = n i }
-
-pub pair-self : (p : Pair) → samePair p p ≡ true
-unfolding samePair
-pair-self p = and-both (eqb (p .kind) (p .kind)) (eqb (p .number) (p .number)) (eqb-self (p .kind)) (eqb-self (p .number))
-
-pub lawful : Lawful linkage
-lawful =
-    record {
-      same-is = eqb-true;
-      same-self = eqb-self;
-      before-self = ltb-self;
-      before-trans = ltb-trans;
-      before-or = ltb-or;
-      item-is = pair-is;
-      item-self = pair-self;
-    }
-
--- ---- the table rules taken apart
-
--- a pair that meets the rules of its list: its number within a width, its kind among the named
-abbrev pub PairMeets : ℕ → ℕ → Pair → Type 0
-PairMeets w named p = (p .number < 256 ^ w) × (kindNamed named (p .kind) ≡ true)
-
-pub pairs-meet : (w named : ℕ) (ps : List Pair) → (pairsMeet w named ps ≡ true) ↔ Every (PairMeets w named) ps
-unfolding pairsMeet
-pairs-meet w named [] = (λ h. tt, λ h. refl)
-pairs-meet w named (p ∷ ps) =
-    let a = and-three (ltb (p .number) (256 ^ w)) (kindNamed named (p .kind)) (pairsMeet w named ps) in (
-      λ h. let t = a .0 h in ((ltb-true (p .number) (256 ^ w) (t .0), t .1), pairs-meet w named ps .0 (t .2)),
-      λ h. a .1 (lt-ltb (p .number) (256 ^ w) (h .0 .0), h .0 .1, pairs-meet w named ps .1 (h .1)),
-    )
-
-pub all-differ : (ps : List Pair) → (allDiffer ps ≡ true) ↔ Different linkage ps
-unfolding allDiffer
-all-differ [] = (λ h. tt, λ h. refl)
-all-differ (p ∷ ps) = (
-  λ h. (
-    not-true (member linkage p ps) (and-left (not (member linkage p ps)) (allDiffer ps) h),
-    all-differ ps .0 (and-right (not (member linkage p ps)) (allDiffer ps) h),
-  ),
-  λ h. and-both (not (member linkage p ps)) (allDiffer ps) (true-not (member linkage p ps) (h .0)) (all-differ ps .1 (h .1)),
-)
-
--- a set that meets the rules under a key
-pub record SetMeets (k : ℕ) (l : IdSet) : Type 0 where
-  pub short : length (l .items) ≤ 128
-  pub first : firstIsDab (l .items) ≡ true
-  pub differ : Different linkage (l .items)
-  pub pairs : Every (PairMeets (keyWidth k) (l .named)) (l .items)
-  pub names : namesMeet k (l .named) ≡ true
-
-pub set-meets : (k : ℕ) (l : IdSet) → (setMeets k l ≡ true) ↔ SetMeets k l
-unfolding setMeets
-set-meets k l =
-    let a = and-five (leb (length (l .items)) 128) (firstIsDab (l .items)) (allDiffer (l .items))
-    (pairsMeet (keyWidth k) (l .named) (l .items)) (namesMeet k (l .named)) in (
-      λ h. let t = a .0 h in
-          record {
-            short = leb-true (length (l .items)) 128 (t .0);
-            first = t .1;
-            differ = all-differ (l .items) .0 (t .2);
-            pairs = pairs-meet (keyWidth k) (l .named) (l .items) .0 (t .3);
-            names = t .4;
-          },
-      λ m. a .1 (
-        le-leb (length (l .items)) 128 (m .short),
-        m .first,
-        all-differ (l .items) .1 (m .differ),
-        pairs-meet (keyWidth k) (l .named) (l .items) .1 (m .pairs),
-        m .names,
-      ),
-    )
-
-pub if-there : (k : ℕ) (o : Option IdSet) → (ifThere k o ≡ true) ↔ Within (SetMeets k) o
-unfolding ifThere
-if-there k none = (λ h. tt, λ h. refl)
-if-there k (some l) = set-meets k l
-
--- a key below 65,536 with LSN not 0
-abbrev pub KeyMeets : ℕ → Type 0
-KeyMeets k = (k < 65536) × (k % 4096 ≡ 0 → ⊥)
-
--- an entry: its key and its lists
-abbrev pub EntryMeets : Held → Type 0
-EntryMeets e = KeyMeets (e .key) × Lists linkage SetMeets e
-
-pub entry-meets : (e : Held) → (entryMeets e ≡ true) ↔ EntryMeets e
-unfolding entryMeets
-entry-meets e =
-    let a = and-four (ltb (e .key) 65536) (not (eqb (e .key % 4096) 0)) (ifThere (e .key) (e .shown)) (ifThere (e .key) (e .draft)) in (
-      λ h. let t = a .0 h in (
-        (ltb-true (e .key) 65536 (t .0), eqb-false (e .key % 4096) 0 (not-true (eqb (e .key % 4096) 0) (t .1))),
-        (if-there (e .key) (e .shown) .0 (t .2), if-there (e .key) (e .draft) .0 (t .3)),
-      ),
-      λ m. a .1 (
-        lt-ltb (e .key) 65536 (m .0 .0),
-        true-not (eqb (e .key % 4096) 0) (ne-eqb (e .key % 4096) 0 (m .0 .1)),
-        if-there (e .key) (e .shown) .1 (m .1 .0),
-        if-there (e .key) (e .draft) .1 (m .1 .1),
-      ),
-    )
-
-pub entries-meet : (t : Content) → (entriesMeet t ≡ true) ↔ Every EntryMeets t
-unfolding entriesMeet
-entries-meet [] = (λ h. tt, λ h. refl)
-entries-meet (e ∷ es) = (
-  λ h. (entry-meets e .0 (and-left (entryMeets e) (entriesMeet es) h), entries-meet es .0 (and-right (entryMeets e) (entriesMeet es) h)),
-  λ m. and-both (entryMeets e) (entriesMeet es) (entry-meets e .1 (m .0)) (entries-meet es .1 (m .1)),
-)
-
-pub ascends-keys : (k : ℕ) (t : Content) → (ascends k t ≡ true) ↔ (After linkage k (heldKeys linkage t) × Ascends linkage (heldKeys linkage t))
-unfolding ascends heldKeys
-ascends-keys k [] = (λ h. (tt, tt), λ h. refl)
-ascends-keys k (e ∷ es) = (
-  λ h.
-      let b = and-left (ltb k (e .key)) (ascends (e .key) es) h in
-      let r = ascends-keys (e .key) es .0 (and-right (ltb k (e .key)) (ascends (e .key) es) h) in
-      ((b, after-through linkage lawful k (e .key) (heldKeys linkage es) b (r .0)), r),
-  λ m. and-both (ltb k (e .key)) (ascends (e .key) es) (m .0 .0) (ascends-keys (e .key) es .1 (m .1)),
-)
-
-pub key-some : (k : ℕ) → KeyMeets k → 0 < k
-key-some k h = cases-bool (ltb 0 k) (ltb-true 0 k) (λ z. absurd (h .1 (omega (arith, ltb-false 0 k z))))
-
--- a table that meets the rules
-pub record Meets (t : Content) : Type 0 where
-  pub few : length t ≤ 32
-  pub ascend : Ascends linkage (heldKeys linkage t)
-  pub entries : Every EntryMeets t
-
-pub table-meets : (t : Content) → (meets t ≡ true) ↔ Meets t
-unfolding meets
-table-meets t =
-    let a = and-three (leb (length t) 32) (ascends 0 t) (entriesMeet t) in (
-      λ h. let r = a .0 h in
-          record { few = leb-true (length t) 32 (r .0); ascend = ascends-keys 0 t .0 (r .1) .1; entries = entries-meet t .0 (r .2) },
-      λ m. a .1 (
-        le-leb (length t) 32 (m .few),
-        ascends-keys 0 t .1 (
-          keys-every linkage (λ k. ltb 0 k ≡ true) t
-              (every-imp EntryMeets (λ e. ltb 0 (e .key) ≡ true) (λ e h. lt-ltb 0 (e .key) (key-some (e .key) (h .0))) t (m .entries)),
-          m .ascend,
-        ),
-        entries-meet t .1 (m .entries),
-      ),
-    )
-
-pub meets-nil : meets [] ≡ true
-unfolding meets ascends entriesMeet
-meets-nil = refl
 
 -- ---- names of two lists together
 
@@ -222,11 +61,7 @@ named-left a b k p q = named-through a (joinNames a b) k (λ h. omega (arith, jo
 pub named-right : (a b k : ℕ) → a < 4 → b < 4 → kindNamed b k ≡ true → kindNamed (joinNames a b) k ≡ true
 named-right a b k p q = named-through b (joinNames a b) k (λ h. omega (arith, join-low a b p q)) (λ h. omega (arith, join-high a b p q))
 
--- a DAB service is always among the named, and a kind among those that it names itself
-pub dab-named : (n : ℕ) → kindNamed n 0 ≡ true
-unfolding kindNamed
-dab-named n = refl
-
+-- a kind is among those that it names itself
 pub own-named : (q : ℕ) → q < 4 → (q ≡ 2 → ⊥) → kindNamed (namedBy q) q ≡ true
 unfolding kindNamed namedBy
 own-named zero h r = refl
@@ -242,12 +77,6 @@ namedBy-below q =
     (cond-both (λ (n : ℕ). n < 4) (eqb q drm) 2 0 (omega arith) (omega arith))
 
 -- the names that a key allows
-pub names-below : (k n : ℕ) → namesMeet k n ≡ true → n < 4
-unfolding namesMeet
-names-below k n =
-    cond-both (λ (b : Bool). b ≡ true → n < 4) (eqb (k / 16384 % 2) 1) (eqb n 0) (ltb n 4)
-    (λ h. omega (arith, eqb-true n 0 h)) (λ h. ltb-true n 4 h)
-
 pub names-join : (k a b : ℕ) → namesMeet k a ≡ true → namesMeet k b ≡ true → namesMeet k (joinNames a b) ≡ true
 unfolding namesMeet
 names-join k a b =
@@ -354,7 +183,7 @@ pub continued-meets : (f : Field) (d : IdSet) → GoodField f → SetMeets (keyO
     → SetMeets (keyOf f) (extended linkage d (brings f))
 unfolding extended brings
 continued-meets f d g m l =
-    let below = names-below (keyOf f) (d .named) (m .names) in
+    let below = names-small (keyOf f) (d .named) (m .names) in
     let named = namedBy (f .qualifier) in
     let w = keyWidth (keyOf f) in
     let wide = PairMeets w (joinNames (d .named) named) in

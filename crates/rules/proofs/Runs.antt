@@ -134,19 +134,6 @@ module _ (F : Family) where
       let p = start-in us (f .key) (f .act) (startedKeys F fs) h in
       (p .0, starts-in us fs (p .1))
 
-  pub among-left : (k : F .Key) (us vs : List (F .Key)) → among F k us ≡ true → among F k (us ++ vs) ≡ true
-  unfolding among
-  among-left k [] vs h = true-false h refl
-  among-left k (u ∷ us) vs h =
-      or-cases (F .sameKey k u) (among F k us) h
-      (λ s. or-left (F .sameKey k u) (among F k (us ++ vs)) s)
-      (λ m. or-right (F .sameKey k u) (among F k (us ++ vs)) (among-left k us vs m))
-
-  pub among-right : (k : F .Key) (us vs : List (F .Key)) → among F k vs ≡ true → among F k (us ++ vs) ≡ true
-  unfolding among
-  among-right k [] vs h = h
-  among-right k (u ∷ us) vs h = or-right (F .sameKey k u) (among F k (us ++ vs)) (among-right k us vs h)
-
   pub length-forget-least : (k : F .Key) (t : List (Entry F)) → length t ≤ suc (length (forget F k t))
   unfolding forget
   length-forget-least k [] = omega arith

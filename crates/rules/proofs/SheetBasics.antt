@@ -1,11 +1,11 @@
 -- What the sheet's laws need of lists of bytes, in this order: the parts of equal lists; bytes that stand at a place, put
 -- together and taken apart again.
-use Prim.Native.Nat.{ℕ, _+_, _≤_, _<_}
+use Prim.Native.Nat.{ℕ, _+_, _<_}
 use mathlib.Core.Path.{_≡_, refl, sym, _∙_, ap, subst}
 use mathlib.Core.List.{List, [], _∷_, _++_, append-assoc}
 use native.Mathlib.Numerals.{add-one}
 use native.Mathlib.Omega.{arith}
-use lib.ListN.{length, getD, drop, length-append, length-drop, drop-of-length-le}
+use lib.ListN.{length, getD, drop, length-append, drop-of-length-le}
 use lib.Seq.{drop-cons, drop-drop, drop-append-seam}
 use lib.Dec.{ltb}
 use borrow.Author.Tests.{ltb-true, ltb-false}
@@ -79,11 +79,6 @@ pub stands-second : (xs ys : List ℕ) {bytes : List ℕ} {a c : ℕ} → Stands
 stands-second xs ys {bytes} {a} {c} p =
     let e = p .ahead ∙ append-assoc xs ys (drop c bytes) in
     record { ahead = stands-front xs (ys ++ drop c bytes) bytes a e; step = omega (arith, p .step, length-append xs ys) }
-
--- the place after them is within the bytes
-pub stands-within : {xs bytes : List ℕ} {a b : ℕ} → a ≤ length bytes → Stands xs bytes a b → b ≤ length bytes
-stands-within {xs} {bytes} {a} {b} l p =
-    omega (arith, p .step, ap length (p .ahead), length-append xs (drop b bytes), length-drop a bytes, length-drop b bytes)
 
 -- by another name of the place after them, or of the bytes
 pub stands-to : {xs bytes : List ℕ} {a b c : ℕ} → b ≡ c → Stands xs bytes a b → Stands xs bytes a c

@@ -8,18 +8,19 @@ use mathlib.Core.Bool.{Bool, true, false, not, _&&_}
 use mathlib.Core.List.{List, [], _∷_, _++_, map, append-assoc}
 use mathlib.Core.Logic.{_↔_}
 use mathlib.Core.Option.{Option, none, some}
-use native.Mathlib.Nat.{pow-suc, div-lt-iff-lt-mul, pow-le-pow-right}
+use native.Mathlib.Nat.{pow-suc, div-lt-iff-lt-mul}
 use native.Mathlib.Omega.{arith}
 use lib.ListN.{length, length-append, length-map}
-use lib.Dec.{leb, ltb, eqb}
-use borrow.Author.Tests.{ltb-true, leb-true, eqb-true, not-true, lt-ltb, le-ltb, le-leb}
+use lib.Dec.{ltb, eqb}
+use borrow.Author.Tests.{ltb-true, lt-ltb, le-ltb}
 use Rattle.rules.specs.declared.Outcome.{Outcome}
 use Rattle.rules.specs.declared.Outcome.the-variants.{Done}
 use Rattle.rules.specs.Block.{bit}
-use Rattle.rules.specs.Field.{Pair, width}
-use Rattle.rules.specs.Collecting.{IdSet, Content, Shown, keyWidth, allDiffer, firstIsDab, kindNamed, pairsMeet, namesMeet, setMeets, ifThere, entryMeets, ascends, entriesMeet, meets, showing, shownSets}
+use Rattle.rules.specs.Field.{Pair}
+use Rattle.rules.specs.Collecting.{IdSet, Content, Shown, keyWidth, pairsMeet, ifThere, entryMeets, ascends, entriesMeet, meets, showing, shownSets}
 use Rattle.rules.specs.Sheet.{groups, sheetNumber, sheetPairs, sheetSet, sheetSets, sheet, alone, justShown, Load, accepted, notASheet}
-use Rattle.rules.proofs.Basics.{Every, every-append, every-at, cases-bool, true-false, and-left, and-right, and-both}
+use Rattle.rules.proofs.Basics.{Every, every-append, every-at, cases-bool, and-left, and-right, and-both, bit-small}
+use Rattle.rules.proofs.TableRules.{kind-small, names-small, width-most, within-width, pair-rules, SetRules, set-rules, entry-rules, table-rules, shown-few}
 use Rattle.rules.proofs.SheetBasics.{same-head, same-tail, Bytes}
 
 -- ---- numbers
@@ -98,113 +99,24 @@ number-bytes n = groups-bytes 5 n
 
 -- ---- what the table rules say of a shown set
 
--- a kind that is named is small
-pub kind-small : (named k : ℕ) → kindNamed named k ≡ true → k < 4
-unfolding kindNamed
-kind-small named k h =
-    cases-bool (eqb k 0) (λ s. let e = eqb-true k 0 s in omega arith)
-    (λ s. cases-bool (eqb k 1) (λ t. let e = eqb-true k 1 t in omega arith)
-    (λ t. cases-bool (eqb k 3) (λ u. let e = eqb-true k 3 u in omega arith)
-    (λ u. true-false (simp (s, t, u) at h) refl)))
-
--- and so are the named kinds
-pub names-small : (k named : ℕ) → namesMeet k named ≡ true → named < 4
-unfolding namesMeet
-names-small k named h =
-    cases-bool (eqb (k / 16384 % 2) 1)
-    (λ s. let e = eqb-true named 0 (rw s at h) in omega arith)
-    (λ s. ltb-true named 4 (rw s at h))
-
--- an identifier has at most four bytes, so that its number is below 2^32
-pub width-most : (k : ℕ) → keyWidth k ≤ 4
-unfolding keyWidth width
-width-most k =
-    cases-bool (eqb (k / 16384 % 2) 1)
-    (λ s. rw s (omega arith))
-    (λ s. rw s (cases-bool (eqb (k / 4096 % 2) 1) (λ t. rw t (omega arith)) (λ t. rw t (omega arith))))
-
-pub within-width : (w n : ℕ) → w ≤ 4 → n < 256 ^ w → n < 2 ^ 32
-within-width w n h l = omega (arith, pow-le-pow-right {n = 256} (omega arith) {i = w} {j = 4} h)
-
--- the rules of a set, one by one
-pub record SetRules (k : ℕ) (l : IdSet) : Type 0 where
-  pub few : length (l .items) ≤ 128
-  pub first : firstIsDab (l .items) ≡ true
-  pub differ : allDiffer (l .items) ≡ true
-  pub pairs : pairsMeet (keyWidth k) (l .named) (l .items) ≡ true
-  pub names : namesMeet k (l .named) ≡ true
-
-pub set-rules : (k : ℕ) (l : IdSet) → setMeets k l ≡ true → SetRules k l
-unfolding setMeets
-set-rules k l h =
-    let a = leb (length (l .items)) 128 in
-    let b = firstIsDab (l .items) in
-    let c = allDiffer (l .items) in
-    let d = pairsMeet (keyWidth k) (l .named) (l .items) in
-    let abcd = and-left (a && b && c && d) (namesMeet k (l .named)) h in
-    let abc = and-left (a && b && c) d abcd in
-    let ab = and-left (a && b) c abc in
-    record {
-      few = leb-true (length (l .items)) 128 (and-left a b ab);
-      first = and-right a b ab;
-      differ = and-right (a && b) c abc;
-      pairs = and-right (a && b && c) d abcd;
-      names = and-right (a && b && c && d) (namesMeet k (l .named)) h;
-    }
-
-pub set-meets : (k : ℕ) (l : IdSet) → SetRules k l → setMeets k l ≡ true
-unfolding setMeets
-set-meets k l r =
-    and-both _ _ (and-both _ _ (and-both _ _ (and-both _ _ (le-leb (length (l .items)) 128 (r .few)) (r .first)) (r .differ)) (r .pairs)) (r .names)
-
 -- the rules of an entry, its open list aside
 pub record ShownRules (s : Shown) : Type 0 where
   pub below : s .key < 65536
   pub lsn : eqb (s .key % 4096) 0 ≡ false
   pub set : SetRules (s .key) (s .set)
 
-pub shown-rules : (s : Shown) → entryMeets (alone s) ≡ true → ShownRules s
-unfolding entryMeets ifThere alone
-shown-rules s h =
-    let a = ltb (s .key) 65536 in
-    let b = not (eqb (s .key % 4096) 0) in
-    let c = setMeets (s .key) (s .set) in
-    let abc = and-left (a && b && c) true h in
-    let ab = and-left (a && b) c abc in
-    record {
-      below = ltb-true (s .key) 65536 (and-left a b ab);
-      lsn = not-true (eqb (s .key % 4096) 0) (and-right a b ab);
-      set = set-rules (s .key) (s .set) (and-right (a && b) c abc);
-    }
-
-pub shown-meets : (s : Shown) → ShownRules s → entryMeets (alone s) ≡ true
-unfolding entryMeets ifThere alone
-shown-meets s r =
-    and-both _ _ (and-both _ _ (and-both _ _ (lt-ltb (s .key) 65536 (r .below)) (rw (r .lsn))) (set-meets (s .key) (s .set) (r .set))) refl
+pub shown-rules : (s : Shown) → (entryMeets (alone s) ≡ true) ↔ ShownRules s
+unfolding ifThere alone
+shown-rules s = (
+  λ h. let r = entry-rules (alone s) .0 h in record { below = r .below; lsn = r .numbered; set = set-rules (s .key) (s .set) .0 (r .shown) },
+  λ r. entry-rules (alone s) .1 (record { below = r .below; numbered = r .lsn; shown = set-rules (s .key) (s .set) .1 (r .set); draft = refl }),
+)
 
 -- ---- pairs
 
 -- a pair is its kind and its number
 pub pair-path : (p q : Pair) → p .kind ≡ q .kind → p .number ≡ q .number → p ≡ q
 pair-path p q a b = λ i. record { kind = a i; number = b i }
-
--- the rules of the first of some pairs
-pub record PairRules (w named : ℕ) (p : Pair) (ps : List Pair) : Type 0 where
-  pub number : p .number < 256 ^ w
-  pub kind : kindNamed named (p .kind) ≡ true
-  pub rest : pairsMeet w named ps ≡ true
-
-pub pair-rules : (w named : ℕ) (p : Pair) (ps : List Pair) → pairsMeet w named (p ∷ ps) ≡ true → PairRules w named p ps
-unfolding pairsMeet
-pair-rules w named p ps h =
-    let a = ltb (p .number) (256 ^ w) in
-    let b = kindNamed named (p .kind) in
-    let ab = and-left (a && b) (pairsMeet w named ps) h in
-    record {
-      number = ltb-true (p .number) (256 ^ w) (and-left a b ab);
-      kind = and-right a b ab;
-      rest = and-right (a && b) (pairsMeet w named ps) h;
-    }
 
 -- as many pairs as known can be told from what follows them
 pub pairs-prefix :
@@ -215,8 +127,8 @@ pairs-prefix v w m n [] [] x y fv fw g h l e = (refl, e)
 pairs-prefix v w m n [] (q ∷ qs) x y fv fw g h l e = absurd (omega arith)
 pairs-prefix v w m n (p ∷ ps) [] x y fv fw g h l e = absurd (omega arith)
 pairs-prefix v w m n (p ∷ ps) (q ∷ qs) x y fv fw g h l e =
-    let a = pair-rules v m p ps g in
-    let b = pair-rules w n q qs h in
+    let a = pair-rules v m p ps .0 g in
+    let b = pair-rules w n q qs .0 h in
     let ak = kind-small m (p .kind) (a .kind) in
     let bk = kind-small n (q .kind) (b .kind) in
     let an = within-width v (p .number) fv (a .number) in
@@ -234,11 +146,6 @@ bit-one true true e = refl
 bit-one true false e = absurd (omega arith)
 bit-one false true e = absurd (omega arith)
 bit-one false false e = refl
-
-pub bit-small : (b : Bool) → bit b < 2
-unfolding bit
-bit-small true = omega arith
-bit-small false = omega arith
 
 -- a set's bytes in front of others, number by number
 pub set-bytes : (s : Shown) (x : List ℕ) →
@@ -278,8 +185,8 @@ sets-prefix [] [] x y g h l e = (refl, e)
 sets-prefix [] (u ∷ us) x y g h l e = absurd (omega arith)
 sets-prefix (s ∷ ss) [] x y g h l e = absurd (omega arith)
 sets-prefix (s ∷ ss) (u ∷ us) x y g h l e =
-    let gs = shown-rules s (and-left (entryMeets (alone s)) (entriesMeet (map alone ss)) g) in
-    let hs = shown-rules u (and-left (entryMeets (alone u)) (entriesMeet (map alone us)) h) in
+    let gs = shown-rules s .0 (and-left (entryMeets (alone s)) (entriesMeet (map alone ss)) g) in
+    let hs = shown-rules u .0 (and-left (entryMeets (alone u)) (entriesMeet (map alone us)) h) in
     let gr = and-right (entryMeets (alone s)) (entriesMeet (map alone ss)) g in
     let hr = and-right (entryMeets (alone u)) (entriesMeet (map alone us)) h in
     let a = set-prefix s u (sheetSets ss ++ x) (sheetSets us ++ y) gs hs (simp append-assoc at e) in
@@ -293,16 +200,6 @@ pub shown-alone : (ss : List Shown) → shownSets (map alone ss) ≡ ss
 unfolding shownSets showing alone
 shown-alone [] = refl
 shown-alone (s ∷ ss) = ap (λ (r : List Shown). s ∷ r) (shown-alone ss)
-
--- no more sets than keys
-pub shown-few : (t : Content) → length (shownSets t) ≤ length t
-unfolding shownSets showing
-shown-few [] = omega arith
-shown-few (e ∷ es) = go (e .shown) (shown-few es)
-  where
-    go : (o : Option IdSet) → length (shownSets es) ≤ length es → length (showing e o (shownSets es)) ≤ suc (length es)
-    go none h = omega arith
-    go (some l) h = omega arith
 
 -- ascending from a key is ascending from a smaller one
 pub ascends-less : (a b : ℕ) (t : Content) → a ≤ b → ascends b t ≡ true → ascends a t ≡ true
@@ -342,36 +239,15 @@ shown-entries (e ∷ es) h =
     go none k s r = r
     go (some l) k s r = and-both _ _ (and-both _ _ (and-both _ _ k s) refl) r
 
--- the table rules, one by one
-pub record TableRules (t : Content) : Type 0 where
-  pub few : length t ≤ 32
-  pub order : ascends 0 t ≡ true
-  pub entries : entriesMeet t ≡ true
-
-pub table-rules : (t : Content) → meets t ≡ true → TableRules t
-unfolding meets
-table-rules t h =
-    let a = leb (length t) 32 in
-    let ab = and-left (a && ascends 0 t) (entriesMeet t) h in
-    record {
-      few = leb-true (length t) 32 (and-left a (ascends 0 t) ab);
-      order = and-right a (ascends 0 t) ab;
-      entries = and-right (a && ascends 0 t) (entriesMeet t) h;
-    }
-
-pub table-meets : (t : Content) → TableRules t → meets t ≡ true
-unfolding meets
-table-meets t r = and-both _ _ (and-both _ _ (le-leb (length t) 32 (r .few)) (r .order)) (r .entries)
-
 -- the shown sets of a table, alone, meet the rules
 pub shown-meet : (t : Content) → meets t ≡ true → meets (justShown t) ≡ true
 unfolding justShown
 shown-meet t h =
-    let r = table-rules t h in
-    table-meets (map alone (shownSets t))
+    let r = table-rules t .0 h in
+    table-rules (map alone (shownSets t)) .1
     (record {
-      few = omega (arith, r .few, shown-few t, length-map (shownSets t) alone);
-      order = shown-ascends 0 t (r .order);
+      short = omega (arith, r .short, shown-few t, length-map (shownSets t) alone);
+      ascend = shown-ascends 0 t (r .ascend);
       entries = shown-entries t (r .entries);
     })
 
@@ -402,8 +278,8 @@ pub sheet-prefix :
     → (shownSets t ≡ shownSets u) × (x ≡ y)
 unfolding sheet
 sheet-prefix t u x y g h e =
-    let a = table-rules t g in
-    let b = table-rules u h in
+    let a = table-rules t .0 g in
+    let b = table-rules u .0 h in
     let tf = shown-few t in
     let uf = shown-few u in
     let c = number-prefix (length (shownSets t)) (length (shownSets u)) (sheetSets (shownSets t) ++ x) (sheetSets (shownSets u) ++ y) (omega arith) (omega arith) (simp append-assoc at e) in
@@ -420,7 +296,7 @@ pub pairs-most : (w named : ℕ) (ps : List Pair) → w ≤ 4 → pairsMeet w na
 unfolding sheetPairs
 pairs-most w named [] f h = omega arith
 pairs-most w named (p ∷ ps) f h =
-    let r = pair-rules w named p ps h in
+    let r = pair-rules w named p ps .0 h in
     let s = kind-small named (p .kind) (r .kind) in
     let n = within-width w (p .number) f (r .number) in
     let a = number-most 0 (p .kind) (omega arith) in
@@ -432,7 +308,7 @@ pairs-most w named (p ∷ ps) f h =
 pub set-most : (s : Shown) → ShownRules s → length (sheetSet s) ≤ 775
 unfolding sheetSet
 set-most s r =
-    let few = r .set .few in
+    let few = r .set .short in
     let n = names-small (s .key) (s .set .named) (r .set .names) in
     let k = number-most 2 (s .key) (omega arith) in
     let sb = bit-small (s .on) in
@@ -446,7 +322,7 @@ pub sets-most : (ss : List Shown) → entriesMeet (map alone ss) ≡ true → le
 unfolding sheetSets entriesMeet
 sets-most [] h = omega arith
 sets-most (s ∷ ss) h =
-    let a = set-most s (shown-rules s (and-left (entryMeets (alone s)) (entriesMeet (map alone ss)) h)) in
+    let a = set-most s (shown-rules s .0 (and-left (entryMeets (alone s)) (entriesMeet (map alone ss)) h)) in
     let b = sets-most ss (and-right (entryMeets (alone s)) (entriesMeet (map alone ss)) h) in
     simp length-append (omega arith)
 
@@ -454,7 +330,7 @@ sets-most (s ∷ ss) h =
 pub sheet-most : (t : Content) → meets t ≡ true → length (sheet t) ≤ 24801
 unfolding sheet
 sheet-most t h =
-    let r = table-rules t h in
+    let r = table-rules t .0 h in
     let f = shown-few t in
     let c = number-most 0 (length (shownSets t)) (omega arith) in
     let s = sets-most (shownSets t) (shown-entries t (r .entries)) in

@@ -4,7 +4,7 @@
 -- The main ones: number-exact, parse-exact, parse-none, parse-loads, load-parses, and groups-turn, pairs-turn, sets-turn.
 use Prim.Native.Nat.{ℕ, zero, suc, _+_, _-_, _*_, _/_, _%_, _^_, _≤_, _<_}
 use mathlib.Core.Path.{_≡_, refl, sym, _∙_, ap, ap₂, subst}
-use mathlib.Core.Bool.{Bool, true, false, not, cond, _&&_, _||_, and-false, and-assoc, or-assoc, or-false, or-true}
+use mathlib.Core.Bool.{Bool, true, false, not, cond, _&&_, _||_, and-false, and-assoc, or-false, or-true}
 use mathlib.Core.List.{List, [], _∷_, _++_, map, append-assoc, append-nil}
 use mathlib.Core.Logic.{_↔_}
 use mathlib.Core.Option.{Option, none, some, Option·some-injective, Option·none-ne-some}
@@ -20,11 +20,13 @@ use Rattle.rules.specs.declared.Outcome.the-variants.{Done, NotASheet}
 use Rattle.rules.specs.Block.{bit}
 use Rattle.rules.specs.Field.{Pair, pair, dab}
 use Rattle.rules.specs.Family.{member}
-use Rattle.rules.specs.Collecting.{linkage, samePair, Content, Shown, keyWidth, allDiffer, firstIsDab, kindNamed, pairsMeet, namesMeet, entryMeets, ascends, entriesMeet, meets, shownSets}
+use Rattle.rules.specs.Collecting.{linkage, Content, Shown, keyWidth, allDiffer, firstIsDab, kindNamed, pairsMeet, namesMeet, entryMeets, ascends, entriesMeet, meets, shownSets}
 use Rattle.rules.specs.Sheet.{groups, sheetNumber, sheetPairs, sheetSet, sheetSets, sheet, alone, justShown, Load, accepted, notASheet}
-use Rattle.rules.proofs.Basics.{cases-bool, cases-option, true-false, and-left, and-right, and-both, or-false-left, or-false-right, eqb-sym}
+use Rattle.rules.proofs.Basics.{cases-bool, cases-option, true-false, and-left, and-right, and-both, bit-small}
+use Rattle.rules.proofs.FamilyLaws.{different-snoc}
+use Rattle.rules.proofs.TableRules.{lawful, kind-small, names-small, width-most, within-width, all-differ, differ-before, pair-rules, table-rules, shown-few}
 use Rattle.rules.proofs.SheetBasics.{Bytes, Stands, byte-ahead, stands-byte, stands-none, stands-append, stands-first, stands-second, stands-to, stands-by}
-use Rattle.rules.proofs.SheetLaws.{groups-small, groups-large, number-least, names-small, kind-small, within-width, width-most, pair-rules, ShownRules, shown-rules, shown-meets, bit-small, table-rules, table-meets, shown-few, shown-ascends, shown-entries, shown-alone, load-single}
+use Rattle.rules.proofs.SheetLaws.{groups-small, groups-large, number-least, ShownRules, shown-rules, shown-ascends, shown-entries, shown-alone, load-single}
 use Rattle.rules.proofs.SheetParse.{Read, andThen, readGroups, readNumber, readIf, kindFits, numberFits, readPair, readPairs, keyFits, countFits, Head, readHead, setOf, readSet, readSets, parseSheet}
 
 -- ---- going on
@@ -252,16 +254,7 @@ if-readable test {n} {bytes} {at} {next} t h = then-go _ (record { value = n; ne
 
 -- ---- pairs
 
--- a pair among the pairs of two lists, and the rules of two lists together
-pub same-pair-sym : (p q : Pair) → samePair p q ≡ samePair q p
-unfolding samePair
-same-pair-sym p q = ap₂ _&&_ (eqb-sym (p .kind) (q .kind)) (eqb-sym (p .number) (q .number))
-
-member-append : (x : Pair) (xs ys : List Pair) → member linkage x (xs ++ ys) ≡ member linkage x xs || member linkage x ys
-unfolding member
-member-append x [] ys = refl
-member-append x (y ∷ xs) ys = ap (λ (b : Bool). samePair x y || b) (member-append x xs ys) ∙ sym (or-assoc (samePair x y) (member linkage x xs) (member linkage x ys))
-
+-- the rules of two lists together
 pub pairs-append : (w named : ℕ) (xs ys : List Pair) → pairsMeet w named (xs ++ ys) ≡ pairsMeet w named xs && pairsMeet w named ys
 unfolding pairsMeet
 pairs-append w named [] ys = refl
@@ -271,24 +264,7 @@ pairs-append w named (p ∷ xs) ys =
 
 -- one pair more at the end
 pub differ-more : (xs : List Pair) (p : Pair) → allDiffer xs ≡ true → member linkage p xs ≡ false → allDiffer (xs ++ p ∷ []) ≡ true
-unfolding allDiffer member
-differ-more [] p h m = refl
-differ-more (x ∷ xs) p h m =
-    let a = not-true (member linkage x xs) (and-left (not (member linkage x xs)) (allDiffer xs) h) in
-    let b = same-pair-sym x p ∙ or-false-left (samePair p x) (member linkage p xs) m in
-    let c : member linkage x (xs ++ p ∷ []) ≡ false = member-append x xs (p ∷ []) ∙ rw (a, b) in
-    and-both _ _ (ap not c) (differ-more xs p (and-right (not (member linkage x xs)) (allDiffer xs) h) (or-false-right (samePair p x) (member linkage p xs) m))
-
--- a pair in the middle is not among those before it
-pub differ-before : (xs : List Pair) (p : Pair) (ps : List Pair) → allDiffer (xs ++ p ∷ ps) ≡ true → member linkage p xs ≡ false
-unfolding allDiffer member
-differ-before [] p ps h = refl
-differ-before (x ∷ xs) p ps h =
-    let all = xs ++ p ∷ ps in
-    let a = not-true (member linkage x all) (and-left (not (member linkage x all)) (allDiffer all) h) in
-    let b = or-false-right (member linkage x xs) (member linkage x (p ∷ ps)) (sym (member-append x xs (p ∷ ps)) ∙ a) in
-    let c = same-pair-sym p x ∙ or-false-left (samePair x p) (member linkage x ps) b in
-    rw c (differ-before xs p ps (and-right (not (member linkage x all)) (allDiffer all) h))
+differ-more xs p h m = all-differ (xs ++ p ∷ []) .1 (different-snoc linkage lawful xs p (all-differ xs .0 h) m)
 
 -- the rules of a list that is being read
 pub record ListRules (w named : ℕ) (xs : List Pair) : Type 0 where
@@ -333,7 +309,7 @@ pub list-next : (w named : ℕ) (acc : List Pair) (p : Pair) (ps : List Pair) �
     → (kindFits named acc (p .kind) ≡ true) × (numberFits w acc (p .kind) (p .number) ≡ true)
 unfolding pair kindFits numberFits
 list-next w named acc p ps r =
-    let m = pair-rules w named p ps (and-right (pairsMeet w named acc) (pairsMeet w named (p ∷ ps)) (sym (pairs-append w named acc (p ∷ ps)) ∙ r .pairs)) in
+    let m = pair-rules w named p ps .0 (and-right (pairsMeet w named acc) (pairsMeet w named (p ∷ ps)) (sym (pairs-append w named acc (p ∷ ps)) ∙ r .pairs)) in
     let l : 0 < length (acc ++ p ∷ ps) = simp length-append (omega arith) in (
       and-both _ _ (m .kind) (first-next acc p ps (r .first l)),
       and-both _ _ (lt-ltb (p .number) (256 ^ w) (m .number)) (ap not (differ-before acc p ps (r .differ))),
@@ -407,7 +383,7 @@ pub pair-readable : (w named : ℕ) (acc : List Pair) (p : Pair) (ps : List Pair
 unfolding readPair pairBytes pair
 pair-readable w named acc p ps bytes at next f h s =
     let t = list-next w named acc p ps h in
-    let m = pair-rules w named p ps (and-right (pairsMeet w named acc) (pairsMeet w named (p ∷ ps)) (sym (pairs-append w named acc (p ∷ ps)) ∙ h .pairs)) in
+    let m = pair-rules w named p ps .0 (and-right (pairsMeet w named acc) (pairsMeet w named (p ∷ ps)) (sym (pairs-append w named acc (p ∷ ps)) ∙ h .pairs)) in
     let small = kind-small named (p .kind) (m .kind) in
     let place = at + length (sheetNumber (p .kind)) in
     let k : Number (p .kind) bytes at place = record { below = omega arith; stands = stands-first (sheetNumber (p .kind)) (sheetNumber (p .number)) s } in
@@ -548,7 +524,7 @@ set-made last h items bytes at place next r s q l t =
       rules = record {
         below = k .1;
         lsn = k .2;
-        set = record { few = omega arith; first = l .first (omega arith); differ = l .differ; pairs = l .pairs; names = r .named };
+        set = record { short = omega arith; first = l .first (omega arith); differ = l .differ; pairs = l .pairs; names = r .named };
       };
       stands = stands-by (set-parts h items q) (stands-append s t);
     }
@@ -576,7 +552,7 @@ set-readable last s bytes at next after r t =
     let u = stands-by (sym (set-parts h items refl)) t in
     let place = at + length (headBytes h) in
     let some-first = first-there items (r .set .first) in
-    let hr : HeadRules last h = record { key = key-fits last (s .key) after (r .below) (r .lsn); named = r .set .names; count = count-fits (length items) some-first (r .set .few) } in
+    let hr : HeadRules last h = record { key = key-fits last (s .key) after (r .below) (r .lsn); named = r .set .names; count = count-fits (length items) some-first (r .set .short) } in
     let lr : ListRules (keyWidth (s .key)) (s .set .named) items = record { pairs = r .set .pairs; differ = r .set .differ; first = λ z. r .set .first } in
     then-go _ (record { value = h; next = place }) (head-readable last h bytes at place hr (stands-first (headBytes h) (sheetPairs items) u))
     ∙ then-go _ (record { value = items; next = next }) (pairs-readable (keyWidth (s .key)) (s .set .named) [] items bytes place next (width-most (s .key)) lr (stands-second (headBytes h) (sheetPairs items) u))
@@ -622,7 +598,7 @@ sets-read (suc count) last acc bytes at r byte e =
       many = ap suc (t .many);
       longer = t .longer ∙ append-snoc acc (alone s) (map alone (t .sets));
       order = and-both _ _ (lt-ltb last (alone s .key) (after-alone last s (m .after))) (order-alone s (map alone (t .sets)) (t .order));
-      entries = and-both _ _ (shown-meets s (m .rules)) (t .entries);
+      entries = and-both _ _ (shown-rules s .1 (m .rules)) (t .entries);
       stands = stands-append (m .stands) (t .stands);
     })
 
@@ -637,7 +613,7 @@ sets-readable last acc (x ∷ ss) bytes at next o r s =
     let place = at + length (sheetSet x) in
     let all = map alone ss in
     let after = ltb-true last (x .key) (and-left (ltb last (x .key)) (ascends (x .key) all) o) in
-    let rules = shown-rules x (and-left (entryMeets (alone x)) (entriesMeet all) r) in
+    let rules = shown-rules x .0 (and-left (entryMeets (alone x)) (entriesMeet all) r) in
     then-go _ (record { value = x; next = place }) (set-readable last x bytes at place after rules (stands-first (sheetSet x) (sheetSets ss) s))
     ∙ sets-readable (x .key) (acc ++ alone x ∷ []) ss bytes place next (and-right (ltb last (x .key)) (ascends (x .key) all) o) (and-right (entryMeets (alone x)) (entriesMeet all) r) (stands-second (sheetSet x) (sheetSets ss) s)
     ∙ ap (λ (xs : Content). some (record { value = xs; next = next })) (append-snoc acc (alone x) all)
@@ -659,7 +635,7 @@ sheet-made ss bytes place next few n o r s q =
     let all = sheetNumber (length ss) ++ sheetSets ss in
     let back = shown-alone ss in
     record {
-      rules = table-meets (map alone ss) (record { few = omega (arith, length-map ss alone); order = o; entries = r });
+      rules = table-rules (map alone ss) .1 (record { short = omega (arith, length-map ss alone); ascend = o; entries = r });
       writes =
           ap (λ (us : List Shown). sheetNumber (length us) ++ sheetSets us) back
           ∙ sym (append-nil all)
@@ -687,7 +663,7 @@ sheet-read bytes u byte e =
 pub sheet-readable : (t : Content) → meets t ≡ true → parseSheet (sheet t) ≡ some (justShown t)
 unfolding parseSheet sheet justShown
 sheet-readable t h =
-    let r = table-rules t h in
+    let r = table-rules t .0 h in
     let ss = shownSets t in
     let l = shown-few t in
     let n = sheetNumber (length ss) in
@@ -695,8 +671,8 @@ sheet-readable t h =
     let place = 0 + length n in
     let whole : Stands bytes bytes 0 (length bytes) =
     record { ahead = sym (ap (λ (x : List ℕ). bytes ++ x) (drop-length bytes) ∙ append-nil bytes); step = omega arith } in
-    then-go _ (record { value = length ss; next = place }) (if-readable (λ k. leb k 32) (le-leb (length ss) 32 (omega (arith, r .few))) (record { below = omega (arith, r .few); stands = stands-first n (sheetSets ss) whole }))
-    ∙ then-go _ (record { value = map alone ss; next = length bytes }) (sets-readable 0 [] ss bytes place (length bytes) (shown-ascends 0 t (r .order)) (shown-entries t (r .entries)) (stands-second n (sheetSets ss) whole))
+    then-go _ (record { value = length ss; next = place }) (if-readable (λ k. leb k 32) (le-leb (length ss) 32 (omega (arith, r .short))) (record { below = omega (arith, r .short); stands = stands-first n (sheetSets ss) whole }))
+    ∙ then-go _ (record { value = map alone ss; next = length bytes }) (sets-readable 0 [] ss bytes place (length bytes) (shown-ascends 0 t (r .ascend)) (shown-entries t (r .entries)) (stands-second n (sheetSets ss) whole))
     ∙ rw (eq-eqb (length bytes) (length bytes) refl)
 
 -- the parser gives exactly the shown sets of the tables that write the bytes

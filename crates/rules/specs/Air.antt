@@ -1,13 +1,13 @@
 -- Writing for air (document 01): the shown sets as blocks of one linking FIG each.
 use Prim.Native.Nat.{ℕ, zero, suc, _+_, _*_, _/_, _%_, _^_}
 use mathlib.Core.Bool.{Bool, true, false, not, cond, _&&_, _||_}
-use mathlib.Core.List.{List, [], _∷_, _++_, map}
+use mathlib.Core.List.{List, [], _∷_, _++_}
 use lib.ListN.{length, take, replicate}
 use lib.Dec.{ltb, eqb}
 use Rattle.rules.specs.declared.Outcome.{Outcome}
 use Rattle.rules.specs.declared.Outcome.the-variants.{Done, ShortBuffer}
 use Rattle.rules.specs.Block.{checkOf, bit}
-use Rattle.rules.specs.Field.{Pair, dab, rds, drm}
+use Rattle.rules.specs.Field.{Pair, rds, drm}
 use Rattle.rules.specs.Collecting.{Content, IdSet, Shown, shownSets, keyWidth}
 use Rattle.rules.specs.Outcomes.{overwritten}
 

@@ -3,7 +3,7 @@
 use Prim.Native.Nat.{ℕ, zero, suc, _+_, _*_, _/_, _%_, _^_}
 use mathlib.Core.Bool.{Bool, true, false, not, xor, cond}
 use mathlib.Core.List.{List, [], _∷_, _++_, map, zipWith}
-use lib.ListN.{length, getD, take, drop, replicate}
+use lib.ListN.{getD, take, drop, replicate}
 use lib.Dec.{leb, ltb, eqb}
 
 -- ---- the check

@@ -1,7 +1,7 @@
 -- Collecting (document 01): linkage sets as an instance of the family, copying out, and the table rules.
 use Prim.Native.Nat.{ℕ, _+_, _*_, _/_, _%_, _^_, max}
 use mathlib.Core.Bool.{Bool, true, false, not, cond, _&&_, _||_}
-use mathlib.Core.List.{List, [], _∷_, map}
+use mathlib.Core.List.{List, [], _∷_}
 use mathlib.Core.Option.{Option, none, some}
 use lib.ListN.{length}
 use lib.Dec.{leb, ltb, eqb}

@@ -1,4 +1,4 @@
--- Document 01 as definitions, a module for each of its sections, in its order.
+-- Document 01 as definitions, a module for each of its sections, in its order; and how a list stands in an array.
 pub mod Block
 pub mod Field
 pub mod Family
@@ -8,3 +8,4 @@ pub mod Air
 pub mod Sheet
 pub mod Listing
 pub mod Demand3
+pub mod Arrays

@@ -1,11 +1,11 @@
 -- The listing (document 01, example 16): the text that the listing program prints, as its bytes.
-use Prim.Native.Nat.{ℕ, zero, suc, _+_, _-_, _*_, _/_, _%_, _^_}
+use Prim.Native.Nat.{ℕ, zero, suc, _+_, _*_, _/_, _%_, _^_}
 use mathlib.Core.Bool.{Bool, true, false, not, cond, _&&_}
 use mathlib.Core.List.{List, [], _∷_, _++_}
 use lib.ListN.{length}
 use lib.Dec.{ltb, eqb}
 use Rattle.rules.specs.Field.{Pair, dab, rds, drm}
-use Rattle.rules.specs.Collecting.{Content, IdSet, Shown, shownSets, keyWidth}
+use Rattle.rules.specs.Collecting.{Content, Shown, shownSets, keyWidth}
 use Rattle.rules.specs.Air.{hasKind}
 
 -- a capital hexadecimal digit

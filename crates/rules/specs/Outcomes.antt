@@ -1,18 +1,18 @@
 -- Numbered outcomes (document 01): each one's number, the order of testing, and what is left.
 -- That a given table meets the rules in its one stored form is tested first of all, where the table is stored (crate table).
-use Prim.Native.Nat.{ℕ, zero, suc, _+_, _-_, _/_, _%_}
-use mathlib.Core.Bool.{Bool, true, false, cond, _||_}
+use Prim.Native.Nat.{ℕ, zero, suc, _+_, _/_, _%_}
+use mathlib.Core.Bool.{Bool, false, cond, _||_}
 use mathlib.Core.List.{List, [], _∷_, _++_, map}
 use mathlib.Core.Option.{Option, none, some}
-use lib.ListN.{length, getD, take, drop}
-use lib.Dec.{leb, ltb, eqb}
+use lib.ListN.{length, take, drop}
+use lib.Dec.{ltb, eqb}
 use Rattle.rules.specs.declared.Outcome.{Outcome}
 use Rattle.rules.specs.declared.Outcome.the-variants.{Done, NotABlock, CheckFails, WrongFig, WrongField, WrongValue, EmptyStart, NotHeld, ShortBuffer, WrongTable, NotASheet, NotShown}
 use Rattle.rules.specs.declared.Note.{Note}
 use Rattle.rules.specs.declared.Note.the-variants.{Opened, ShownAndOpened, Added, NoOpenList, Full, TooLong, StateOnly, UnknownKey}
 use Rattle.rules.specs.Block.{Walk, whole, broken, Fig, figs, checkHolds}
 use Rattle.rules.specs.Field.{Field, isLinking, fieldsOf, wrongValue, emptyStart, Pair}
-use Rattle.rules.specs.Family.{steps, dropOpen, find, forget}
+use Rattle.rules.specs.Family.{steps, dropOpen, find}
 use Rattle.rules.specs.Collecting.{linkage, IdSet, Held, Content, said}
 
 -- the number of an outcome in document 01

@@ -3,28 +3,19 @@ use Prim.Native.Nat.{ℕ, _-_}
 use native.Mathlib.Omega.{arith}
 use mathlib.Core.Path.{_≡_, refl, sym, ap, ap₂, _∙_}
 use mathlib.Core.Bool.{true, false}
-use mathlib.Core.List.{List, [], _∷_, map}
+use mathlib.Core.List.{[], _∷_, map}
 use mathlib.Core.Option.{Option, none, some}
-use lib.ListN.{length, take, replicate, length-map}
-use lib.Seq.{take-append-seam}
+use lib.ListN.{length, length-map}
 use Rattle.rules.specs.Collecting.{IdSet, Held, Content, ifThere, entryMeets, entriesMeet, meets}
 use Rattle.rules.proofs.Basics.{and-left, and-right}
 use Rattle.rules.proofs.SheetBasics.{same-head, same-tail}
+use Rattle.rules.proofs.Arrays.{padded-same}
+use Rattle.rules.proofs.TableRules.{set-rules, entry-rules, table-rules}
 use Rattle.lists.specs.declared.IdList.{IdList}
-use Rattle.lists.specs.Stored.{padded, emptyList, storeList, storeMaybe, pairsIn}
-use Rattle.lists.proofs.StoredLaws.{pairs-in-store, not-none, set-facts}
+use Rattle.lists.specs.Stored.{emptyList, storeList, storeMaybe, pairsIn}
+use Rattle.lists.proofs.StoredLaws.{pairs-in-store, not-none}
 use Rattle.table.specs.declared.Table.{Table}
 use Rattle.table.specs.Stored.{keyIn, onIn, shownIn, draftIn, storeTable}
-use Rattle.table.proofs.TableLaws.{meets-facts, entry-facts}
-
--- ---- an array
-
-padded-same : {A : Type 0} (n : ℕ) (d : A) (xs ys : List A) → length xs ≡ length ys → padded n d xs ≡ padded n d ys → xs ≡ ys
-unfolding padded
-padded-same n d xs ys l e =
-    sym (take-append-seam xs (replicate (n - length xs) d))
-    ∙ ap₂ take l e
-    ∙ take-append-seam ys (replicate (n - length ys) d)
 
 -- ---- a list
 
@@ -38,8 +29,8 @@ list-same l m e =
 maybe-same : (k j : ℕ) (o p : Option IdSet) → ifThere k o ≡ true → ifThere j p ≡ true → storeMaybe o ≡ storeMaybe p → o ≡ p
 unfolding storeMaybe storeList emptyList ifThere
 maybe-same k j none none f g e = refl
-maybe-same k j none (some m) f g e = absurd (not-none (m .items) (set-facts j m g .first) (sym (ap (λ (x : IdList). x .len) e)))
-maybe-same k j (some l) none f g e = absurd (not-none (l .items) (set-facts k l f .first) (ap (λ (x : IdList). x .len) e))
+maybe-same k j none (some m) f g e = absurd (not-none (m .items) (set-rules j m .0 g .first) (sym (ap (λ (x : IdList). x .len) e)))
+maybe-same k j (some l) none f g e = absurd (not-none (l .items) (set-rules k l .0 f .first) (ap (λ (x : IdList). x .len) e))
 maybe-same k j (some l) (some m) f g e = ap (λ (x : IdSet). some x) (list-same l m e)
 
 -- ---- entries
@@ -48,8 +39,8 @@ entry-same : (x y : Held) → entryMeets x ≡ true → entryMeets y ≡ true
     → keyIn x ≡ keyIn y → onIn x ≡ onIn y → shownIn x ≡ shownIn y → draftIn x ≡ draftIn y → x ≡ y
 unfolding keyIn onIn shownIn draftIn
 entry-same x y f g k o s d =
-    let a = entry-facts x f in
-    let b = entry-facts y g in
+    let a = entry-rules x .0 f in
+    let b = entry-rules y .0 g in
     let ss = maybe-same (x .key) (y .key) (x .shown) (y .shown) (a .shown) (b .shown) s in
     let ds = maybe-same (x .key) (y .key) (x .draft) (y .draft) (a .draft) (b .draft) d in
     λ i. record { key = k i; state = o i; shown = ss i; draft = ds i }
@@ -71,7 +62,7 @@ pub store-injective : (c d : Content) → meets c ≡ true → meets d ≡ true 
 unfolding storeTable
 store-injective c d f g e =
     let l : length c ≡ length d = ap (λ (t : Table). t .count) e in
-    entries-same c d (meets-facts c f .entries) (meets-facts d g .entries) l
+    entries-same c d (table-rules c .0 f .entries) (table-rules d .0 g .entries) l
     (padded-same 32 0 (map keyIn c) (map keyIn d) (length-map c keyIn ∙ l ∙ sym (length-map d keyIn)) (ap (λ (t : Table). t .keys) e))
     (padded-same 32 false (map onIn c) (map onIn d) (length-map c onIn ∙ l ∙ sym (length-map d onIn)) (ap (λ (t : Table). t .on) e))
     (padded-same 32 emptyList (map shownIn c) (map shownIn d) (length-map c shownIn ∙ l ∙ sym (length-map d shownIn)) (ap (λ (t : Table). t .shown) e))

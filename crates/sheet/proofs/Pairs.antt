@@ -7,23 +7,23 @@ use mathlib.Core.List.{List, [], _∷_, _++_, map}
 use mathlib.Core.Option.{none, some}
 use lib.ListN.{length, set, length-append, length-map}
 use lib.Dec.{eqb}
+use Rattle.rules.specs.Arrays.{padded}
 use Rattle.rules.specs.Field.{Pair, pair, dab}
 use Rattle.rules.specs.Collecting.{kindNamed}
 use Rattle.rules.specs.Outcomes.{numberIn, kindIn}
-use Rattle.rules.proofs.Basics.{and-left, map-append}
-use Rattle.rules.proofs.SheetLaws.{kind-small}
+use Rattle.rules.proofs.Basics.{and-left}
 use Rattle.rules.proofs.SheetParse.{readIf, kindFits, numberFits, readPair, readPairs}
 use Rattle.rules.proofs.SheetParseLaws.{then-go, then-none, pairs-turn, pairs-end}
-use Rattle.lists.specs.Stored.{padded, storeList, pairsIn}
+use Rattle.rules.proofs.Arrays.{length-padded, set-column}
+use Rattle.rules.proofs.TableRules.{kind-small}
+use Rattle.lists.specs.Stored.{storeList, pairsIn}
 use Rattle.lists.proofs.Pairs.{length-pairs-in}
 use Rattle.lists.proofs.StoredLaws.{pairs-in-store}
-use Rattle.table.proofs.TableLaws.{length-padded}
 use Rattle.sheet.specs.declared.ReadNumber.the-variants as number
 use Rattle.sheet.specs.declared.ReadPair.{ReadPair}
 use Rattle.sheet.specs.declared.ReadPair.the-variants as item
 use Rattle.sheet.specs.Reading.{numberAs, pairRead, noList, listAs}
 use Rattle.sheet.proofs.Tests.{number-none, number-some, if-true, kindTest}
-use Rattle.sheet.proofs.Stores.{set-padded}
 
 -- ---- the next identifier
 
@@ -118,14 +118,8 @@ module _ (w named count : ℕ) (bytes : List ℕ) (at : ℕ) where
         record {
           read = more;
           many = omega (arith, length-append (g .read) (pair k n ∷ []), g .many);
-          numbers-are =
-              ap (λ (ns : List ℕ). set ns i n) (g .numbers-are)
-              ∙ set-padded 128 i 0 n (map numberIn (g .read)) (length-map (g .read) numberIn ∙ g .many) (omega arith)
-              ∙ ap (padded 128 0) (sym (map-append numberIn (g .read) (pair k n ∷ [])));
-          kinds-are =
-              ap (λ (ks : List ℕ). set ks i k) (g .kinds-are)
-              ∙ set-padded 128 i 0 k (map kindIn (g .read)) (length-map (g .read) kindIn ∙ g .many) (omega arith)
-              ∙ ap (padded 128 0) (sym (map-append kindIn (g .read) (pair k n ∷ [])));
+          numbers-are = set-column numberIn 128 i 0 (g .read) (pair k n) (g .numbers-are) refl (g .many) (omega arith);
+          kinds-are = set-column kindIn 128 i 0 (g .read) (pair k n) (g .kinds-are) refl (g .many) (omega arith);
           rest = sym (then-go _ _ e) ∙ sym (pairs-turn count i w named (g .read) bytes place h) ∙ g .rest;
         }
 

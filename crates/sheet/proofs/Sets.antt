@@ -6,6 +6,7 @@ use mathlib.Core.Bool.{Bool, true, false}
 use mathlib.Core.List.{List, [], _∷_, _++_, map}
 use mathlib.Core.Option.{Option, none, some}
 use lib.ListN.{length, set, length-append, length-map}
+use Rattle.rules.specs.Arrays.{padded}
 use Rattle.rules.specs.Field.{Pair}
 use Rattle.rules.specs.Collecting.{Content, Shown, keyWidth}
 use Rattle.rules.specs.Sheet.{alone}
@@ -13,8 +14,9 @@ use Rattle.rules.proofs.Basics.{true-false, map-append}
 use Rattle.rules.proofs.SheetBasics.{Bytes}
 use Rattle.rules.proofs.SheetParse.{Read, readPairs, Head, readHead, setOf, readSet, readSets}
 use Rattle.rules.proofs.SheetParseLaws.{then-go, then-none, head-read, count-rules, sets-turn, sets-end}
+use Rattle.rules.proofs.Arrays.{padded-default, set-column}
 use Rattle.lists.specs.declared.IdList.{IdList}
-use Rattle.lists.specs.Stored.{padded, emptyList, storeList, storeMaybe}
+use Rattle.lists.specs.Stored.{emptyList, storeList, storeMaybe}
 use Rattle.table.specs.Stored.{keyIn, onIn, shownIn, draftIn, storeTable}
 use Rattle.sheet.specs.declared.SetHead.{SetHead}
 use Rattle.sheet.specs.declared.ReadHead.the-variants as head
@@ -22,7 +24,6 @@ use Rattle.sheet.specs.declared.ReadList.{ReadList}
 use Rattle.sheet.specs.declared.ReadSet.{ReadSet}
 use Rattle.sheet.specs.declared.ReadSets.{ReadSets}
 use Rattle.sheet.specs.Reading.{headOf, headAs, noList, listAs, noSet, setAs, noSets, setsAs}
-use Rattle.sheet.proofs.Stores.{set-padded, padded-default}
 
 -- ---- a set
 
@@ -159,21 +160,9 @@ module _ (count : ℕ) (bytes : List ℕ) (at : ℕ) where
         record {
           read = g .read ++ alone s ∷ [];
           many = omega (arith, length-append (g .read) (alone s ∷ []), g .many);
-          keys-are =
-              ap (λ (ks : List ℕ). set ks i (r .key)) (g .keys-are)
-              ∙ set-padded 32 i 0 (r .key) (map keyIn (g .read)) (length-map (g .read) keyIn ∙ g .many) (omega arith)
-              ∙ ap (λ (k : ℕ). padded 32 0 (map keyIn (g .read) ++ k ∷ [])) (m .key-is)
-              ∙ ap (padded 32 0) (sym (map-append keyIn (g .read) (alone s ∷ [])));
-          on-are =
-              ap (λ (os : List Bool). set os i (r .on)) (g .on-are)
-              ∙ set-padded 32 i false (r .on) (map onIn (g .read)) (length-map (g .read) onIn ∙ g .many) (omega arith)
-              ∙ ap (λ (b : Bool). padded 32 false (map onIn (g .read) ++ b ∷ [])) (m .on-is)
-              ∙ ap (padded 32 false) (sym (map-append onIn (g .read) (alone s ∷ [])));
-          shown-are =
-              ap (λ (ls : List IdList). set ls i (r .list)) (g .shown-are)
-              ∙ set-padded 32 i emptyList (r .list) (map shownIn (g .read)) (length-map (g .read) shownIn ∙ g .many) (omega arith)
-              ∙ ap (λ (l : IdList). padded 32 emptyList (map shownIn (g .read) ++ l ∷ [])) (m .list-is)
-              ∙ ap (padded 32 emptyList) (sym (map-append shownIn (g .read) (alone s ∷ [])));
+          keys-are = set-column keyIn 32 i 0 (g .read) (alone s) (g .keys-are) (m .key-is) (g .many) (omega arith);
+          on-are = set-column onIn 32 i false (g .read) (alone s) (g .on-are) (m .on-is) (g .many) (omega arith);
+          shown-are = set-column shownIn 32 i emptyList (g .read) (alone s) (g .shown-are) (m .list-is) (g .many) (omega arith);
           draft-are =
               g .draft-are
               ∙ sym (padded-default 32 emptyList (map draftIn (g .read)) (omega (arith, length-map (g .read) draftIn, g .many)))

@@ -12,9 +12,9 @@ use Rattle.rules.specs.Field.{Pair, pair, dab}
 use Rattle.rules.specs.Family.{member}
 use Rattle.rules.specs.Collecting.{linkage, kindNamed, namesMeet}
 use Rattle.rules.proofs.Basics.{cases-bool, never-true}
-use Rattle.rules.proofs.SheetLaws.{kind-small}
 use Rattle.rules.proofs.SheetParse.{Read, readNumber, readIf, numberFits, keyFits, countFits}
 use Rattle.rules.proofs.SheetParseLaws.{then-some, then-go, then-none, cond-some}
+use Rattle.rules.proofs.TableRules.{kind-small}
 use Rattle.sheet.specs.declared.ReadNumber.the-variants.{At, Wrong}
 use Rattle.sheet.specs.Reading.{numberAs}
 

@@ -11,7 +11,8 @@ use Rattle.rules.specs.Block.{bit}
 use Rattle.rules.specs.Field.{Pair, pair}
 use Rattle.rules.specs.Collecting.{Content, Shown, meets, shownSets}
 use Rattle.rules.specs.Sheet.{sheetNumber, sheetPairs, sheetSet, sheetSets, sheet}
-use Rattle.rules.proofs.SheetLaws.{table-rules, shown-few, shown-entries, sets-most}
+use Rattle.rules.proofs.SheetLaws.{shown-entries, sets-most}
+use Rattle.rules.proofs.TableRules.{table-rules, shown-few}
 use Rattle.lists.specs.declared.IdList.{IdList}
 use Rattle.lists.specs.Stored.{pairsIn}
 use Rattle.lists.proofs.Pairs.{length-pairs-in, drop-pairs, drop-pairs-end}
@@ -100,9 +101,9 @@ list-short t i s h = holds-facts (getD (t .keys) i 0) _ (stored-facts t s .shown
 pub sets-short : (t : Table) → Stored t → length (sheetSets (setsIn t)) ≤ 24800
 unfolding Stored
 sets-short t s =
-    let r = table-rules (s .0) (s .1) in
+    let r = table-rules (s .0) .0 (s .1) in
     rw (ap setsIn (s .2) ∙ sets-stored (s .0) (s .1))
-    (omega (arith, r .few, shown-few (s .0), sets-most (shownSets (s .0)) (shown-entries (s .0) (r .entries))))
+    (omega (arith, r .short, shown-few (s .0), sets-most (shownSets (s .0)) (shown-entries (s .0) (r .entries))))
 
 -- its sheet, by the sets in its arrays
 module _ (t : Table) (c : Content) (m : meets c ≡ true) (e : t ≡ storeTable c) {count : ℕ} (count-is : count ≡ length (setsIn t)) where

@@ -1,22 +1,23 @@
 -- Copying to the front of a buffer, one value further, and what a stored set hands out.
-use Prim.Native.Nat.{ℕ, zero, suc, _+_, _-_, _<_, _≤_}
+use Prim.Native.Nat.{ℕ, _+_, _-_, _<_, _≤_}
 use native.Mathlib.Omega.{arith}
-use mathlib.Core.Path.{_≡_, refl, sym, ap, ap₂, _∙_, subst}
-use mathlib.Core.List.{List, [], _∷_, _++_, map}
-use lib.ListN.{length, getD, set, take, drop, length-take, length-drop, length-append, List·getD-append}
+use mathlib.Core.Path.{_≡_, refl, sym, ap, ap₂, _∙_}
+use mathlib.Core.List.{List, _++_, map}
+use lib.ListN.{length, getD, set, take, drop, length-drop, length-append, List·getD-append}
 use lib.Seq.{length-take-le, getD-take, take-append-le, take-all}
 use mathlib.Core.Option.{Option, none, some}
 use mathlib.Core.Bool.{true}
 use lib.ListN.{length-map}
 use borrow.Author.Tests.{lt-ltb, le-ltb}
 use native.Mathlib.Nat.{not-suc-le-zero}
+use Rattle.rules.specs.Arrays.{padded}
 use Rattle.rules.specs.declared.Outcome.the-variants.{Done, NotShown, ShortBuffer}
 use Rattle.rules.specs.Collecting.{IdSet, Held, ifThere}
 use Rattle.rules.specs.Outcomes.{overwritten, Copied, notCopied, copySet, numberIn, kindIn}
+use Rattle.rules.proofs.Arrays.{take-padded}
 use Rattle.lists.specs.declared.IdList.{IdList}
-use Rattle.lists.specs.Stored.{padded, storeList, emptyList, storeMaybe}
-use Rattle.lists.proofs.StoredLaws.{not-none, set-facts}
-use Rattle.table.proofs.TableLaws.{take-padded}
+use Rattle.lists.specs.Stored.{storeList, emptyList, storeMaybe}
+use Rattle.lists.proofs.StoredLaws.{stored-some}
 use Rattle.table.proofs.Shifts.{blend, blend-step}
 
 module _ (n : ℕ) (from to : List ℕ) (hf : n ≤ length from) (ht : n ≤ length to) where
@@ -52,18 +53,7 @@ module _ (n : ℕ) (from to : List ℕ) (hf : n ≤ length from) (ht : n ≤ len
       (take-append-le n (take n from) (drop (length (take n from)) to) (rw l (omega arith)) ∙ take-all n (take n from) (rw l (omega arith)))
       (ap (λ (k : ℕ). drop k to) (sym l))
 
-  pub length-now : (now' : List ℕ) (i : ℕ) → i ≤ n → now' ≡ blend i (overwritten (take n from) to) to → length now' ≡ length to
-  unfolding blend
-  length-now now' i h e =
-      ap length e ∙ length-append (take i (overwritten (take n from) to)) (drop i to)
-      ∙ ap₂ _+_ (length-take-le i (overwritten (take n from) to) (rw length-copy (omega arith))) (length-drop i to) ∙ omega arith
-
 -- ---- a stored set handed out
-
--- a shown set is not empty
-stored-some : (key : ℕ) (l : IdSet) → ifThere key (some l) ≡ true → storeMaybe (some l) .len ≡ 0 → ⊥
-unfolding ifThere storeMaybe storeList
-stored-some key l m z = not-none (l .items) (set-facts key l m .first) z
 
 -- what is handed out of a stored list
 unfoldable pub copied : Held → IdList → List ℕ → List ℕ → Copied

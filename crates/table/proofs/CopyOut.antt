@@ -1,42 +1,35 @@
 -- Copying out of a table that is the stored form of a content: what stands at a held key's place, and each of the answers.
-use Prim.Native.Nat.{ℕ, zero, suc, _+_, _-_, _<_, _≤_}
+use Prim.Native.Nat.{ℕ, zero, suc, _-_, _<_, _≤_}
 use native.Mathlib.Nat.{le-of-suc-le-suc, not-suc-le-zero}
-use native.Mathlib.Omega.{arith}
-use mathlib.Core.Path.{_≡_, refl, sym, ap, ap₂, _∙_, subst}
+use mathlib.Core.Path.{_≡_, sym, ap, ap₂, _∙_, subst}
 use mathlib.Core.Bool.{Bool, true, false}
-use mathlib.Core.List.{List, [], _∷_, _++_, map}
-use mathlib.Core.Option.{Option, none, some}
-use lib.ListN.{length, getD, take, replicate, length-map, List·getD-append}
+use mathlib.Core.List.{List, [], _∷_, map}
+use mathlib.Core.Option.{Option}
+use lib.ListN.{length, getD, take, length-map}
+use Rattle.rules.specs.Arrays.{padded}
 use Rattle.rules.specs.declared.Outcome.{Outcome}
 use Rattle.rules.specs.declared.Outcome.the-variants.{Done, NotHeld, NotShown, ShortBuffer}
-use Rattle.rules.specs.Family.{Entry, find}
-use Rattle.rules.specs.Collecting.{linkage, IdSet, Held, Content, meets, entriesMeet, entryMeets, ifThere}
+use Rattle.rules.specs.Collecting.{Held, Content, meets, entriesMeet, entryMeets, ifThere}
 use Rattle.rules.specs.Outcomes.{overwritten, Copied, notCopied, copySet, copyHeld, copyOut}
+use Rattle.rules.proofs.Basics.{and-left, and-right, getD-map}
+use Rattle.rules.proofs.Arrays.{getD-padded}
+use Rattle.rules.proofs.TableRules.{table-rules, entry-rules}
 use Rattle.lists.specs.declared.IdList.{IdList}
-use Rattle.lists.specs.Stored.{padded, emptyList, storeMaybe}
-use Rattle.lists.proofs.StoredLaws.{and-left, and-right}
+use Rattle.lists.specs.Stored.{emptyList, storeMaybe}
 use Rattle.table.specs.declared.Table.{Table}
-use Rattle.table.specs.Stored.{keyIn, onIn, shownIn, draftIn, storeTable, past}
+use Rattle.table.specs.Stored.{keyIn, onIn, shownIn, storeTable, past}
 use Rattle.table.specs.declared.Copied.{Copied as Answered}
 use Rattle.table.specs.Answers.{copiedAs}
 use Rattle.table.specs.Places.{placeIn}
-use Rattle.table.proofs.TableLaws.{meets-facts, entry-facts}
 use Rattle.table.proofs.Entries.{Here, noEntry, find-here, find-not-here}
 use Rattle.table.proofs.GivenLaws.{place-at}
 use Rattle.table.proofs.Copies.{copied, copy-not-shown, copy-short, copy-short-kinds, copy-done}
 
 -- ---- what stands at a place
 
-getD-map : {B : Type 0} (f : Held → B) (c : Content) (i : ℕ) (d : B) → i < length c → getD (map f c) i d ≡ f (getD c i noEntry)
-getD-map f [] i d h = absurd (not-suc-le-zero h)
-getD-map f (e ∷ c) zero d h = refl
-getD-map f (e ∷ c) (suc i) d h = getD-map f c i d (le-of-suc-le-suc h)
-
 -- one column at a place among the entries
 pub column-at : {B : Type 0} (f : Held → B) (d g : B) (c : Content) (i : ℕ) → i < length c → getD (padded 32 d (map f c)) i g ≡ f (getD c i noEntry)
-unfolding padded
-column-at f d g c i h =
-    List·getD-append (map f c) (replicate (32 - length (map f c)) d) g i (rw (length-map c f) h) ∙ getD-map f c i g h
+column-at f d g c i h = getD-padded 32 d g (map f c) i (rw (length-map c f) h) ∙ getD-map f c i g noEntry h
 
 pub entry-at : (c : Content) → entriesMeet c ≡ true → (i : ℕ) → i < length c → entryMeets (getD c i noEntry) ≡ true
 unfolding entriesMeet
@@ -48,7 +41,7 @@ entry-at (e ∷ c) m (suc i) h = entry-at c (and-right (entryMeets e) (entriesMe
 
 pub copies-missing : (c : Content) (k : ℕ) (ns ks : List ℕ) → meets c ≡ true → (Here c k → ⊥) → notCopied NotHeld ns ks ≡ copyOut k c ns ks
 unfolding copyOut copyHeld
-copies-missing c k ns ks m n = sym (ap (λ (f : Option Held). copyHeld f ns ks) (find-not-here 0 c k (meets-facts c m .ascend) n))
+copies-missing c k ns ks m n = sym (ap (λ (f : Option Held). copyHeld f ns ks) (find-not-here 0 c k (table-rules c .0 m .ascend) n))
 
 -- ---- a key that is held
 
@@ -91,11 +84,11 @@ module _ (t : Table) (c : Content) (m : meets c ≡ true) (e : t ≡ storeTable 
 
   key-is : held .key ≡ k
   unfolding Here keyIn held
-  key-is = sym (getD-map keyIn c (placeIn (map keyIn c) k) 0 within) ∙ h .1
+  key-is = sym (getD-map keyIn c (placeIn (map keyIn c) k) 0 noEntry within) ∙ h .1
 
   set-meets : ifThere (held .key) (held .shown) ≡ true
   unfolding held
-  set-meets = entry-facts held (entry-at c (meets-facts c m .entries) (placeIn (map keyIn c) k) within) .shown
+  set-meets = entry-rules held .0 (entry-at c (table-rules c .0 m .entries) (placeIn (map keyIn c) k) within) .shown
 
   len-is : getD (t .shown) at past .len ≡ storeMaybe (held .shown) .len
   len-is = ap (λ (s : IdList). s .len) set-is

@@ -1,25 +1,23 @@
 -- A content by places: what the search for a key's place says of finding, replacing, inserting and forgetting (keys ascend),
 -- and the stored form of a content with one entry replaced, more or less.
 use Prim.Native.Nat.{ℕ, zero, suc, _+_, _-_, _<_, _≤_, suc-le-suc}
-use native.Mathlib.Nat.{le-of-suc-le-suc, not-suc-le-zero, suc-inj}
+use native.Mathlib.Nat.{le-of-suc-le-suc, not-suc-le-zero}
 use native.Mathlib.Omega.{arith}
-use mathlib.Core.Path.{_≡_, refl, sym, ap, ap₂, _∙_, subst}
-use mathlib.Core.Bool.{Bool, true, false, not, cond, _&&_}
+use mathlib.Core.Path.{_≡_, refl, sym, ap, ap₂, _∙_}
+use mathlib.Core.Bool.{true, false}
 use mathlib.Core.List.{List, [], _∷_, _++_, map, map-append}
-use mathlib.Core.Option.{Option, none, some}
-use lib.ListN.{length, getD, set, take, drop, length-map, length-set}
-use lib.Dec.{ltb, eqb}
+use mathlib.Core.Option.{none, some}
+use lib.ListN.{length, getD, set, take, drop, length-map}
+use lib.Dec.{ltb}
 use borrow.Author.Tests.{eq-eqb, ne-eqb, lt-ltb, le-ltb, ltb-true, ltb-false}
-use Rattle.rules.specs.Family.{Entry, find, replace, insert, forget}
+use Rattle.rules.specs.Arrays.{padded}
+use Rattle.rules.specs.Family.{find, replace, insert, forget}
 use Rattle.rules.specs.Collecting.{linkage, Held, Content, ascends}
-use Rattle.lists.specs.declared.IdList.{IdList}
-use Rattle.lists.specs.Stored.{padded, emptyList}
-use Rattle.lists.proofs.Pairs.{decide}
-use Rattle.lists.proofs.StoredLaws.{and-left, and-right}
-use Rattle.table.specs.declared.Table.{Table}
-use Rattle.table.specs.Stored.{keyIn, onIn, shownIn, draftIn, storeTable}
+use Rattle.rules.proofs.Basics.{cases-bool, and-left, and-right}
+use Rattle.rules.proofs.Arrays.{padded-set}
+use Rattle.table.specs.Stored.{keyIn}
 use Rattle.table.specs.Places.{placeIn, opened, shut}
-use Rattle.table.proofs.Shifts.{padded-set, padded-opened, padded-shut}
+use Rattle.table.proofs.Shifts.{padded-opened, padded-shut}
 
 -- the entry that stands past the end
 abbrev pub noEntry : Held
@@ -30,7 +28,7 @@ noEntry = record { key = 0; state = false; shown = none; draft = none }
 pub place-most : (c : Content) (k : ℕ) → placeIn (map keyIn c) k ≤ length c
 unfolding placeIn
 place-most [] k = omega arith
-place-most (e ∷ c) k = decide (ltb (keyIn e) k) (λ t. rw t (suc-le-suc (place-most c k))) (λ f. rw f (omega arith))
+place-most (e ∷ c) k = cases-bool (ltb (keyIn e) k) (λ t. rw t (suc-le-suc (place-most c k))) (λ f. rw f (omega arith))
 
 -- the key stands at its place
 unfoldable pub Here : Content → ℕ → Type 0
@@ -48,7 +46,7 @@ pub find-here : (c : Content) (k : ℕ) → Here c k → find linkage k c ≡ so
 unfolding find placeIn Here keyIn
 find-here [] k = λ h. absurd (not-suc-le-zero (h .0))
 find-here (e ∷ c) k =
-    decide (ltb (e .key) k)
+    cases-bool (ltb (e .key) k)
     (λ t. rw (t, ne-eqb k (e .key) (λ q. before q (ltb-true (e .key) k t))) (λ h. find-here c k (le-of-suc-le-suc (h .0), h .1)))
     (λ f. rw f (λ h. rw (eq-eqb k (e .key) (sym (h .1)))))
   where
@@ -59,7 +57,7 @@ pub find-not-here : (last : ℕ) (c : Content) (k : ℕ) → ascends last c ≡ 
 unfolding find placeIn Here keyIn ascends
 find-not-here last [] k a = λ h. refl
 find-not-here last (e ∷ c) k a =
-    decide (ltb (e .key) k)
+    cases-bool (ltb (e .key) k)
     (λ t. rw (t, ne-eqb k (e .key) (λ q. before q (ltb-true (e .key) k t))) (λ h. find-not-here (e .key) c k (and-right (ltb last (e .key)) (ascends (e .key) c) a) (λ g. h (suc-le-suc (g .0), g .1))))
     (λ f. rw f (λ h.
     let differs : k ≡ e .key → ⊥ = λ q. h (omega arith, sym q) in
@@ -74,7 +72,7 @@ pub replace-here : (c : Content) (e : Held) → Here c (e .key) → replace link
 unfolding replace placeIn Here keyIn
 replace-here [] e = λ h. refl
 replace-here (x ∷ c) e =
-    decide (ltb (x .key) (e .key))
+    cases-bool (ltb (x .key) (e .key))
     (λ t. rw (t, ne-eqb (e .key) (x .key) (λ q. before q (ltb-true (x .key) (e .key) t)))
     (λ h. ap (λ (r : Content). x ∷ r) (replace-here c e (le-of-suc-le-suc (h .0), h .1))))
     (λ f. rw f (λ h. rw (eq-eqb (e .key) (x .key) (sym (h .1)))))
@@ -87,7 +85,7 @@ pub insert-here : (c : Content) (e : Held) → (Here c (e .key) → ⊥)
 unfolding insert placeIn Here keyIn
 insert-here [] e = λ h. refl
 insert-here (x ∷ c) e =
-    decide (ltb (x .key) (e .key))
+    cases-bool (ltb (x .key) (e .key))
     (λ t. rw (t, le-ltb (e .key) (x .key) (lt-le (ltb-true (x .key) (e .key) t)))
     (λ h. ap (λ (r : Content). x ∷ r) (insert-here c e (λ g. h (suc-le-suc (g .0), g .1)))))
     (λ f. rw f (λ h. rw (lt-ltb (e .key) (x .key) (strict (ltb-false (x .key) (e .key) f) (λ q. h (omega arith, sym q))))))
@@ -102,7 +100,7 @@ pub forget-here : (c : Content) (k : ℕ) → Here c k → forget linkage k c �
 unfolding forget placeIn Here keyIn
 forget-here [] k = λ h. refl
 forget-here (x ∷ c) k =
-    decide (ltb (x .key) k)
+    cases-bool (ltb (x .key) k)
     (λ t. rw (t, ne-eqb k (x .key) (λ q. before q (ltb-true (x .key) k t)))
     (λ h. ap (λ (r : Content). x ∷ r) (forget-here c k (le-of-suc-le-suc (h .0), h .1))))
     (λ f. rw f (λ h. rw (eq-eqb k (x .key) (sym (h .1)))))
@@ -122,7 +120,7 @@ pub forget-not-here : (last : ℕ) (c : Content) (k : ℕ) → ascends last c �
 unfolding forget placeIn Here keyIn ascends
 forget-not-here last [] k a = λ h. refl
 forget-not-here last (e ∷ c) k a =
-    decide (ltb (e .key) k)
+    cases-bool (ltb (e .key) k)
     (λ t. rw (t, ne-eqb k (e .key) (λ q. before q (ltb-true (e .key) k t)))
     (λ h. ap (λ (r : Content). e ∷ r) (forget-not-here (e .key) c k (and-right (ltb last (e .key)) (ascends (e .key) c) a) (λ g. h (suc-le-suc (g .0), g .1)))))
     (λ f. rw f (λ h.

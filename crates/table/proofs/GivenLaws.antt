@@ -1,29 +1,29 @@
 -- What a table that is the stored form of a content says of it. In order: its count and its keys; a key's place in it; a table
 -- with one entry set, more or less; forgetting; a refused table.
-use Prim.Native.Nat.{ℕ, zero, suc, _+_, _-_, _<_, _≤_}
+use Prim.Native.Nat.{ℕ, suc, _+_, _-_, _<_, _≤_}
 use native.Mathlib.Omega.{arith}
-use mathlib.Core.Path.{_≡_, refl, sym, ap, ap₂, _∙_, subst}
-use mathlib.Core.Bool.{Bool, true, false, not, cond, _&&_, false≢true}
-use mathlib.Core.List.{List, [], _∷_, _++_, map}
-use mathlib.Core.Option.{Option, none, some}
-use lib.ListN.{length, getD, set, take, drop, replicate, length-map, length-append, length-take, length-drop, length-set, List·getD-append}
-use lib.Dec.{ltb}
-use lib.Seq.{length-take-le, set-getD}
-use Rattle.rules.specs.declared.Outcome.{Outcome}
+use mathlib.Core.Path.{_≡_, sym, ap, ap₂, _∙_, subst}
+use mathlib.Core.Bool.{Bool, true, false, false≢true}
+use mathlib.Core.List.{List, _++_, map}
+use mathlib.Core.Option.{Option}
+use lib.ListN.{length, getD, take, drop, replicate, length-map, length-append, length-drop, List·getD-append}
+use lib.Seq.{length-take-le}
+use Rattle.rules.specs.Arrays.{padded}
 use Rattle.rules.specs.declared.Outcome.the-variants.{Done, NotHeld}
-use Rattle.rules.specs.Family.{Entry, find, replace, insert, forget}
+use Rattle.rules.specs.Family.{find, forget}
 use Rattle.rules.specs.Collecting.{linkage, Held, Content, meets, ascends}
 use Rattle.rules.specs.Outcomes.{forgetOutcome, heldOr}
+use Rattle.rules.proofs.Arrays.{take-padded}
+use Rattle.rules.proofs.TableRules.{table-rules}
 use Rattle.lists.specs.declared.IdList.{IdList}
-use Rattle.lists.specs.Stored.{padded, emptyList, storeMaybe, Tested}
+use Rattle.lists.specs.Stored.{emptyList, Tested}
 use Rattle.lists.proofs.StoredLaws.{holds-facts, holds-long}
 use Rattle.table.specs.declared.Table.{Table}
-use Rattle.table.specs.declared.Forgotten.{Forgotten}
-use Rattle.table.specs.Stored.{keyIn, onIn, shownIn, draftIn, storeTable, openedTable, Stored, Given, stored, notStored, past, EachHolds}
-use Rattle.table.specs.Places.{placeIn, opened, shut}
+use Rattle.table.specs.Stored.{keyIn, onIn, shownIn, draftIn, storeTable, Stored, Given, stored, notStored, past, EachHolds}
+use Rattle.table.specs.Places.{placeIn, shut}
 use Rattle.table.specs.Answers.{forgottenAs}
-use Rattle.table.proofs.TableLaws.{take-padded, MeetsFacts, meets-facts, stored-facts}
-use Rattle.table.proofs.Entries.{Here, noEntry, place-most, find-here, find-not-here, replace-here, insert-here, forget-here, forget-not-here, column-set, column-opened, column-shut}
+use Rattle.table.proofs.TableLaws.{stored-facts}
+use Rattle.table.proofs.Entries.{Here, find-here, find-not-here, forget-here, forget-not-here, column-shut}
 
 -- ---- count and keys
 
@@ -103,12 +103,12 @@ forget-missing c k a n =
 
 module _ (t : Table) (c : Content) (m : meets c ≡ true) (e : t ≡ storeTable c) (k at : ℕ) (p : at ≡ placeIn (take (t .count) (t .keys)) k) where
   pub forgets-missing : (Here c k → ⊥) → record { outcome = NotHeld; table = t } ≡ forgottenAs k c
-  forgets-missing n = ap (λ (u : Table). record { outcome = NotHeld; table = u }) e ∙ forget-missing c k (meets-facts c m .ascend) n
+  forgets-missing n = ap (λ (u : Table). record { outcome = NotHeld; table = u }) e ∙ forget-missing c k (table-rules c .0 m .ascend) n
 
   pub forgets-held : Here c k → record { outcome = Done; table = shutTable t at } ≡ forgottenAs k c
   forgets-held h =
       ap (λ (u : Table). record { outcome = Done; table = shutTable u at }) e
-      ∙ forget-held c k (meets-facts c m .short) h at (p ∙ place-at t c e k)
+      ∙ forget-held c k (table-rules c .0 m .short) h at (p ∙ place-at t c e k)
 
 -- ---- by the answer of the table's own test
 

@@ -1,14 +1,14 @@
 -- An array with one value more or one less. In order: a blend of two arrays, one value further; the values of `opened` and
 -- `shut`; both on stored arrays.
-use Prim.Native.Nat.{ℕ, zero, suc, _+_, _-_, _<_, _≤_, min}
+use Prim.Native.Nat.{ℕ, zero, suc, _+_, _-_, _<_, _≤_}
 use native.Mathlib.Nat.{le-of-suc-le-suc, not-suc-le-zero, add-zero}
 use native.Mathlib.Numerals.{add-one}
 use native.Mathlib.Omega.{arith}
-use mathlib.Core.Path.{_≡_, refl, sym, ap, ap₂, _∙_, subst}
-use mathlib.Core.List.{List, [], _∷_, _++_, map, append-assoc, append-nil}
-use lib.ListN.{length, getD, set, take, drop, replicate, length-take, length-drop, length-append, length-map, length-replicate, length-set, take-append-drop, List·getD-append, replicate-append-replicate, drop-of-length-le}
-use lib.Seq.{set-at, drop-cons, take-suc, take-append-le, drop-append-le, take-append-add, take-all, take-take, getD-append-add, getD-take, getD-drop, length-take-le, append-snoc, set-append-left, set-comm}
-use Rattle.lists.specs.Stored.{padded}
+use mathlib.Core.Path.{_≡_, refl, sym, ap, ap₂, _∙_}
+use mathlib.Core.List.{List, [], _∷_, _++_, append-assoc, append-nil}
+use lib.ListN.{length, getD, set, take, drop, replicate, length-take, length-drop, length-append, length-replicate, take-append-drop, List·getD-append, replicate-append-replicate, drop-of-length-le}
+use lib.Seq.{set-at, drop-cons, take-suc, take-append-le, drop-append-le, take-append-add, take-all, take-take, getD-append-add, getD-take, getD-drop, length-take-le, append-snoc, set-comm}
+use Rattle.rules.specs.Arrays.{padded}
 use Rattle.table.specs.Places.{opened, shut}
 
 module _ {A : Type 0} where
@@ -113,12 +113,7 @@ module _ {A : Type 0} where
       ∙ take-all at (take at xs) (rw (length-take-le at xs (omega arith)) (omega arith)))
       ∙ take-append-drop at xs
 
-  -- ---- on stored arrays: a place among the values
-
-  pub padded-set : (n : ℕ) (d : A) (ys : List A) (i : ℕ) (v : A) → i < length ys → padded n d (set ys i v) ≡ set (padded n d ys) i v
-  unfolding padded
-  padded-set n d ys i v h =
-      ap (λ (k : ℕ). set ys i v ++ replicate (n - k) d) (length-set ys i v) ∙ sym (set-append-left ys (replicate (n - length ys) d) i v h)
+  -- ---- on stored arrays
 
   take-replicate : (m n : ℕ) (d : A) → m ≤ n → take m (replicate n d) ≡ replicate m d
   take-replicate zero n d h = refl

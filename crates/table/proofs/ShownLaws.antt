@@ -12,13 +12,13 @@ use lib.Dec.{eqb}
 use lib.Seq.{drop-cons}
 use borrow.Author.Tests.{eq-eqb, ne-eqb}
 use Rattle.rules.specs.Collecting.{IdSet, Held, Content, meets, ifThere, Shown, showing, shownSets}
+use Rattle.rules.proofs.Basics.{cases-bool}
+use Rattle.rules.proofs.TableRules.{set-rules, entry-rules, table-rules}
 use Rattle.lists.specs.Stored.{storeList, storeMaybe, emptyList}
-use Rattle.lists.proofs.Pairs.{decide}
-use Rattle.lists.proofs.StoredLaws.{pairs-in-store, not-none, set-facts}
+use Rattle.lists.proofs.StoredLaws.{pairs-in-store, not-none}
 use Rattle.table.specs.declared.Table.{Table}
 use Rattle.table.specs.Stored.{keyIn, onIn, shownIn, storeTable, past}
 use Rattle.table.specs.Shown.{setIn, shownAs, ifShown, setsFrom, setsIn}
-use Rattle.table.proofs.TableLaws.{meets-facts, entry-facts}
 use Rattle.table.proofs.Entries.{noEntry}
 use Rattle.table.proofs.CopyOut.{column-at, entry-at}
 
@@ -65,7 +65,7 @@ unfolding setsFrom ifShown
 sets-most t zero i = omega arith
 sets-most t (suc n) i =
     let rest : length (setsFrom t (i + 1) n) ≤ n = sets-most t n (i + 1) in
-    decide (eqb (getD (t .shown) i past .len) 0) (λ e. rw e (omega arith)) (λ e. rw e (omega arith))
+    cases-bool (eqb (getD (t .shown) i past .len) 0) (λ e. rw e (omega arith)) (λ e. rw e (omega arith))
 
 pub sets-few : (t : Table) → length (setsIn t) ≤ 32
 unfolding setsIn
@@ -86,7 +86,7 @@ set-there : (e : Held) (o : Option IdSet) (rest : List Shown) → ifThere (e .ke
 unfolding ifShown shownAs storeMaybe emptyList ifThere showing storeList
 set-there e none rest m = refl
 set-there e (some l) rest m =
-    rw (ne-eqb (length (l .items)) 0 (not-none (l .items) (set-facts (e .key) l m .first)))
+    rw (ne-eqb (length (l .items)) 0 (not-none (l .items) (set-rules (e .key) l .0 m .first)))
     (ap (λ (s : IdSet). record { key = e .key; on = e .state; set = s } ∷ rest) (set-stored l))
 
 module _ (c : Content) (m : meets c ≡ true) where
@@ -100,9 +100,9 @@ module _ (c : Content) (m : meets c ≡ true) where
       let here : drop i c ≡ f ∷ drop (i + 1) c = rw (add-one i) (drop-cons c i noEntry h) in
       ap₄ ifShown
       (column-at keyIn 0 0 c i h) (column-at onIn false false c i h) (column-at shownIn emptyList past c i h) rest
-      ∙ set-there f (f .shown) (shownSets (drop (i + 1) c)) (entry-facts f (entry-at c (meets-facts c m .entries) i h) .shown)
+      ∙ set-there f (f .shown) (shownSets (drop (i + 1) c)) (entry-rules f .0 (entry-at c (table-rules c .0 m .entries) i h) .shown)
       ∙ sym (ap shownSets here)
 
   pub sets-stored : setsIn (storeTable c) ≡ shownSets c
   unfolding setsIn storeTable
-  sets-stored = sets-after (min (length c) 32) 0 (omega (arith, meets-facts c m .short))
+  sets-stored = sets-after (min (length c) 32) 0 (omega (arith, table-rules c .0 m .short))

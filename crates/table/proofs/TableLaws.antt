@@ -4,39 +4,25 @@ use Prim.Native.Nat.{ℕ, zero, suc, _+_, _-_, _%_, _<_, _≤_, suc-le-suc}
 use native.Mathlib.Nat.{le-of-suc-le-suc, not-suc-le-zero}
 use native.Mathlib.Omega.{arith}
 use mathlib.Core.Path.{_≡_, refl, sym, ap, ap₂, _∙_, subst}
-use mathlib.Core.Bool.{Bool, true, false, not, cond, _&&_}
-use mathlib.Core.List.{List, [], _∷_, _++_, map}
-use mathlib.Core.Option.{Option, none, some}
-use lib.ListN.{length, getD, take, drop, replicate, length-take, length-drop, length-append, length-map, length-replicate, getD-replicate}
-use lib.Dec.{ltb, leb, eqb}
-use lib.Seq.{take-append-seam, drop-append-seam, ext-getD, getD-drop, length-take-le}
-use borrow.Author.Tests.{leb-true, le-leb}
-use Rattle.rules.specs.Family.{Entry}
-use Rattle.rules.specs.Collecting.{linkage, IdSet, Held, Content, meets, ascends, entriesMeet, entryMeets, ifThere}
+use mathlib.Core.Bool.{Bool, true, false, not, _&&_}
+use mathlib.Core.List.{List, [], _∷_, map}
+use lib.ListN.{length, getD, take, drop, replicate, length-drop, length-map, length-replicate, getD-replicate}
+use lib.Dec.{ltb, eqb}
+use lib.Seq.{ext-getD, getD-drop}
+use borrow.Author.Tests.{ltb-true, lt-ltb}
+use Rattle.rules.specs.Arrays.{padded}
+use Rattle.rules.specs.Collecting.{Held, Content, meets, ascends, entriesMeet, entryMeets, ifThere}
+use Rattle.rules.proofs.Basics.{and-left, and-right, not-true}
+use Rattle.rules.proofs.Arrays.{padded-nil, padded-cons, take-padded, drop-padded, same-padded}
+use Rattle.rules.proofs.TableRules.{entry-rules, TableRules, table-rules}
 use Rattle.lists.specs.declared.IdList.{IdList}
-use Rattle.lists.specs.Stored.{padded, emptyList, storeMaybe, allZero, Holds}
-use Rattle.lists.proofs.StoredLaws.{and-left, and-right, same-padded, zeros-padded, padded-zeros, listOf, list-of-holds, holds-none, empty-by}
+use Rattle.lists.specs.Stored.{emptyList, storeMaybe, allZero, Holds}
+use Rattle.lists.proofs.StoredLaws.{zeros-padded, padded-zeros, listOf, list-of-holds, holds-none, empty-by}
 use Rattle.table.specs.declared.Table.{Table}
 use Rattle.table.specs.Stored.{keyIn, onIn, shownIn, draftIn, storeTable, past, EachHolds, NoneFrom, Stored}
 use Rattle.table.specs.Places.{keysMeet, allOff}
 
 -- ---- arrays by place
-
-padded-cons {ℓ} : {A : Type ℓ} (n : ℕ) (d x : A) (xs : List A) → padded (suc n) d (x ∷ xs) ≡ x ∷ padded n d xs
-unfolding padded
-padded-cons {A = A} n d x xs =
-    let e : suc n - suc (length xs) ≡ n - length xs = omega arith in
-    ap (λ (k : ℕ). x ∷ (xs ++ replicate k d)) e
-
-padded-nil {ℓ} : {A : Type ℓ} (n : ℕ) (d : A) → padded n d [] ≡ replicate n d
-unfolding padded
-padded-nil n d =
-    let e : n - 0 ≡ n = omega arith in
-    ap (λ (k : ℕ). replicate k d) e
-
-pub length-padded {ℓ} : {A : Type ℓ} (n : ℕ) (d : A) (xs : List A) → length xs ≤ n → length (padded n d xs) ≡ n
-unfolding padded
-length-padded n d xs h = length-append xs (replicate (n - length xs) d) ∙ rw length-replicate (omega arith)
 
 -- the values g 0, g 1, .. below n
 unfoldable pub tabulate {ℓ} : {A : Type ℓ} → ℕ → (ℕ → A) → List A
@@ -74,16 +60,6 @@ unfolding tabulate
 map-tabulate f zero g = refl
 map-tabulate f (suc n) g = ap (λ r. f (g zero) ∷ r) (map-tabulate f n (λ k. g (suc k)))
 
--- the values of a stored array, and what stands after them
-pub take-padded {ℓ} : {A : Type ℓ} (n : ℕ) (d : A) (xs : List A) (m : ℕ) → length xs ≡ m → take m (padded n d xs) ≡ xs
-unfolding padded
-take-padded {A = A} n d xs m e = subst (λ (k : ℕ). take k (xs ++ replicate (n - length xs) d) ≡ xs) e (take-append-seam xs (replicate (n - length xs) d))
-
-pub drop-padded {ℓ} : {A : Type ℓ} (n : ℕ) (d : A) (xs : List A) (m : ℕ) → length xs ≡ m → drop m (padded n d xs) ≡ replicate (n - m) d
-unfolding padded
-drop-padded {A = A} n d xs m e =
-    subst (λ (k : ℕ). drop k (xs ++ replicate (n - length xs) d) ≡ replicate (n - k) d) e (drop-append-seam xs (replicate (n - length xs) d))
-
 -- ---- flags
 
 all-off-replicate : (n : ℕ) → allOff (replicate n false) ≡ true
@@ -112,36 +88,13 @@ pub record TableFacts (t : Table) : Type 0 where
   pub draft-hold : EachHolds (t .keys) (t .draft)
   pub draft-end : NoneFrom (t .count) (t .draft)
 
--- the parts of the rule for an entry
-pub record EntryFacts (e : Held) : Type 0 where
-  pub below : ltb (e .key) 65536 ≡ true
-  pub numbered : not (eqb (e .key % 4096) 0) ≡ true
-  pub shown : ifThere (e .key) (e .shown) ≡ true
-  pub draft : ifThere (e .key) (e .draft) ≡ true
-
-pub entry-facts : (e : Held) → entryMeets e ≡ true → EntryFacts e
-unfolding entryMeets
-entry-facts e m =
-    let a = and-left _ (ifThere (e .key) (e .draft)) m in
-    let b = and-left _ (ifThere (e .key) (e .shown)) a in
-    record {
-      below = and-left (ltb (e .key) 65536) _ b;
-      numbered = and-right (ltb (e .key) 65536) _ b;
-      shown = and-right (ltb (e .key) 65536 && not (eqb (e .key % 4096) 0)) _ a;
-      draft = and-right (ltb (e .key) 65536 && not (eqb (e .key % 4096) 0) && ifThere (e .key) (e .shown)) _ m;
-    }
-
-pub entry-meets : (e : Held) → EntryFacts e → entryMeets e ≡ true
-unfolding entryMeets
-entry-meets e f = rw (f .below, f .numbered, f .shown, f .draft)
-
 -- ascending keys and entries that meet the rules, as one test of the keys
 keys-of : (last : ℕ) (c : Content) → ascends last c ≡ true → entriesMeet c ≡ true → keysMeet last (map keyIn c) ≡ true
 unfolding ascends entriesMeet keysMeet keyIn
 keys-of last [] a m = refl
 keys-of last (e ∷ c) a m =
-    let f = entry-facts e (and-left (entryMeets e) (entriesMeet c) m) in
-    rw (and-left (ltb last (e .key)) (ascends (e .key) c) a, f .below, f .numbered)
+    let f = entry-rules e .0 (and-left (entryMeets e) (entriesMeet c) m) in
+    rw (and-left (ltb last (e .key)) (ascends (e .key) c) a, lt-ltb (e .key) 65536 (f .below), f .numbered)
     (keys-of (e .key) c (and-right (ltb last (e .key)) (ascends (e .key) c) a) (and-right (entryMeets e) (entriesMeet c) m))
 
 -- a list of each entry, by places: `f` is shownIn or draftIn
@@ -168,33 +121,13 @@ none-from f (e ∷ c) (suc n) l (suc i) h g =
 
 shown-holds : (e : Held) → entryMeets e ≡ true → Holds (e .key) (shownIn e)
 unfolding Holds shownIn
-shown-holds e m = (e .shown, entry-facts e m .shown, refl)
+shown-holds e m = (e .shown, entry-rules e .0 m .shown, refl)
 
 draft-holds : (e : Held) → entryMeets e ≡ true → Holds (e .key) (draftIn e)
 unfolding Holds draftIn
-draft-holds e m = (e .draft, entry-facts e m .draft, refl)
+draft-holds e m = (e .draft, entry-rules e .0 m .draft, refl)
 
--- the parts of the table rules
-pub record MeetsFacts (c : Content) : Type 0 where
-  pub short : length c ≤ 32
-  pub ascend : ascends 0 c ≡ true
-  pub entries : entriesMeet c ≡ true
-
-pub meets-facts : (c : Content) → meets c ≡ true → MeetsFacts c
-unfolding meets
-meets-facts c m =
-    let a = and-left _ (entriesMeet c) m in
-    record {
-      short = leb-true _ _ (and-left (leb (length c) 32) (ascends 0 c) a);
-      ascend = and-right (leb (length c) 32) (ascends 0 c) a;
-      entries = and-right (leb (length c) 32 && ascends 0 c) (entriesMeet c) m;
-    }
-
-pub facts-meet : (c : Content) → MeetsFacts c → meets c ≡ true
-unfolding meets
-facts-meet c f = rw (le-leb _ _ (f .short), f .ascend, f .entries)
-
-store-facts : (c : Content) → MeetsFacts c → TableFacts (storeTable c)
+store-facts : (c : Content) → TableRules c → TableFacts (storeTable c)
 unfolding storeTable EachHolds NoneFrom
 store-facts c f =
     record {
@@ -210,7 +143,7 @@ store-facts c f =
 
 pub stored-facts : (t : Table) → Stored t → TableFacts t
 unfolding Stored
-stored-facts t s = subst TableFacts (sym (s .2)) (store-facts (s .0) (meets-facts (s .0) (s .1)))
+stored-facts t s = subst TableFacts (sym (s .2)) (store-facts (s .0) (table-rules (s .0) .0 (s .1)))
 
 -- ---- these facts are enough
 
@@ -238,10 +171,10 @@ entries-by last [] m l = refl
 entries-by last (e ∷ c) m l =
     let r = and-right (ltb last (e .key) && ltb (e .key) 65536 && not (eqb (e .key % 4096) 0)) (keysMeet (e .key) (map keyIn c)) m in
     let a = and-left (ltb last (e .key) && ltb (e .key) 65536 && not (eqb (e .key % 4096) 0)) (keysMeet (e .key) (map keyIn c)) m in
-    rw (entry-meets e
+    rw (entry-rules e .1
     (record {
-      below = and-right (ltb last (e .key)) (ltb (e .key) 65536) (and-left (ltb last (e .key) && ltb (e .key) 65536) _ a);
-      numbered = and-right (ltb last (e .key) && ltb (e .key) 65536) _ a;
+      below = ltb-true (e .key) 65536 (and-right (ltb last (e .key)) (ltb (e .key) 65536) (and-left (ltb last (e .key) && ltb (e .key) 65536) _ a));
+      numbered = not-true (eqb (e .key % 4096) 0) (and-right (ltb last (e .key) && ltb (e .key) 65536) _ a);
       shown = l .0 .0;
       draft = l .0 .1;
     }))
@@ -311,7 +244,7 @@ module _ (t : Table) (f : TableFacts t)
   content-meets : meets contentOf ≡ true
   unfolding contentOf entryAt EachHolds
   content-meets =
-      facts-meet contentOf
+      table-rules contentOf .1
       (record {
         short = subst (λ (k : ℕ). k ≤ 32) (sym length-content) (f .short);
         ascend = ascends-by 0 contentOf keys-ok;
@@ -323,7 +256,3 @@ module _ (t : Table) (f : TableFacts t)
   pub facts-stored : Stored t
   unfolding Stored
   facts-stored = (contentOf, content-meets, is-stored)
-
--- an array of structs stands in what a function knows under a `map`
-pub length-of-map : {A B : Type 0} (f : A → B) (xs : List A) (n : ℕ) → length (map f xs) ≡ n → length xs ≡ n
-length-of-map f xs n e = sym (length-map xs f) ∙ e

@@ -5,9 +5,10 @@ use mathlib.Core.Bool.{Bool, true, false, cond, _&&_}
 use mathlib.Core.List.{List, [], map}
 use lib.ListN.{length, getD}
 use lib.Dec.{ltb}
+use Rattle.rules.specs.Arrays.{padded}
 use Rattle.rules.specs.Collecting.{Held, Content, meets}
 use Rattle.lists.specs.declared.IdList.{IdList}
-use Rattle.lists.specs.Stored.{padded, emptyList, storeMaybe, Holds}
+use Rattle.lists.specs.Stored.{emptyList, storeMaybe, Holds}
 use Rattle.table.specs.declared.Table.{Table}
 use Rattle.table.specs.Places.{opened}
 

@@ -5,8 +5,9 @@ use mathlib.Core.Path.{refl}
 use Rattle.rules.specs.Collecting.{keyWidth}
 use Rattle.rules.proofs.AirPieces.{most-small}
 use Rattle.out.proofs.Runs.{puts-then, puts-as}
-use Rattle.rules.proofs.SheetLaws.{width-most}
-use Rattle.air.proofs.Blocks.{few-bytes, fig-made}
+use Rattle.rules.proofs.AirBlock.{ids-few}
+use Rattle.rules.proofs.TableRules.{width-most}
+use Rattle.air.proofs.Blocks.{fig-made}
 use borrow.Author.Needs.{needs}
 use Rattle.air.proofs.put_fig.Statement.{statement}
 use Rattle.air.proofs.put_fig.Tie as tie
@@ -16,7 +17,7 @@ small : (c : tie.After-bit-of2)
     → (c .before .before .before .before .before .args .part .to - c .before .before .before .before .before .args .part .from) * c .before .before .width-of .result ≤ 24
 small c =
     let s = c .before .before .before .before .before in
-    rw (c .before .before .width-of .ensures) (few-bytes (s .args .key) (s .args .part .to - s .args .part .from) (omega (arith, s .pre .few)))
+    rw (c .before .before .width-of .ensures) (ids-few (s .args .key) (s .args .part .to - s .args .part .from) (omega (arith, s .pre .few)))
 
 width-of-requires : tie.Need-width-of-requires
 width-of-requires c κs = search needs

@@ -7,7 +7,7 @@ use mathlib.Core.Bool.{cond}
 use lib.ListN.{length}
 use Rattle.rules.specs.Collecting.{keyWidth}
 use Rattle.rules.specs.Listing.{stateText}
-use Rattle.rules.proofs.SheetLaws.{width-most}
+use Rattle.rules.proofs.TableRules.{width-most}
 use Rattle.columns.proofs.codes_size.Statement.{statement}
 use Rattle.columns.proofs.codes_size.Tie as tie
 

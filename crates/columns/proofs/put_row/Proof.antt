@@ -5,8 +5,8 @@ use mathlib.Core.Path.{_≡_, ap, _∙_}
 use mathlib.Core.Bool.{cond, _||_}
 use lib.Dec.{eqb}
 use Rattle.rules.specs.Collecting.{keyWidth}
+use Rattle.rules.proofs.TableRules.{width-most}
 use Rattle.out.proofs.Runs.{puts-as, puts-then}
-use Rattle.rules.proofs.SheetLaws.{width-most}
 use Rattle.columns.specs.Columns.{Cell, blank, rowOf, filled, lineText, cellText, rowText}
 use Rattle.columns.specs.Cells.{cellOf}
 use Rattle.columns.proofs.Lines.{third-column}

@@ -3,7 +3,6 @@ use Prim.Native.Nat.{_-_, min}
 use native.Mathlib.Omega.{arith}
 use mathlib.Core.Path.{_≡_, refl, sym, _∙_}
 use lib.ListN.{length, drop}
-use borrow.Author.Tests.{not-true, not-false}
 use Rattle.lists.specs.Stored.{pairsIn}
 use Rattle.rules.specs.Collecting.{allDiffer}
 use Rattle.lists.proofs.Pairs.{differ-next, differ-not, differ-end}

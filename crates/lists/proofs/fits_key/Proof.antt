@@ -1,11 +1,9 @@
 -- `lists::fits_key` meets its contract: the definition's tests are the code's, and every u32 is below 256 ^ 4.
-use mathlib.Core.Path.{_≡_, refl, sym, ap, _∙_}
-use mathlib.Core.Bool.{Bool, true, false, not, cond}
+use mathlib.Core.Path.{sym}
 use native.Mathlib.Omega.{arith}
-use borrow.Author.Tests.{eq-eqb, ne-eqb, lt-ltb, le-ltb}
+use borrow.Author.Tests.{eq-eqb, ne-eqb, lt-ltb}
 use Rattle.rules.specs.Field.{width}
 use Rattle.rules.specs.Collecting.{keyWidth}
-use borrow.Author.Needs.{needs}
 use Rattle.lists.proofs.fits_key.Statement.{statement}
 use Rattle.lists.proofs.fits_key.Tie as tie
 use Rattle.lists.proofs.fits_key.Reads as reads

@@ -1,12 +1,10 @@
 -- `lists::kind_named` meets its contract: the definition's tests are the code's.
-use mathlib.Core.Path.{_≡_, refl, sym, ap, _∙_}
-use mathlib.Core.Bool.{Bool, true, false, not, cond, or-false}
+use mathlib.Core.Path.{_≡_}
+use mathlib.Core.Bool.{false, or-false}
 use Prim.Native.Nat.{ℕ}
 use lib.Dec.{eqb}
-use native.Mathlib.Omega.{arith}
-use borrow.Author.Tests.{eq-eqb, ne-eqb, lt-ltb, le-ltb}
+use borrow.Author.Tests.{eq-eqb, ne-eqb}
 use Rattle.rules.specs.Collecting.{kindNamed}
-use borrow.Author.Needs.{needs}
 use Rattle.lists.proofs.kind_named.Statement.{statement}
 use Rattle.lists.proofs.kind_named.Tie as tie
 use Rattle.lists.proofs.kind_named.Reads as reads

@@ -1,8 +1,6 @@
 -- `lists::named_by` meets its contract: the definition's tests are the code's.
-use mathlib.Core.Path.{_≡_, refl}
 use borrow.Author.Tests.{eq-eqb, ne-eqb}
 use Rattle.rules.specs.Field.{namedBy}
-use borrow.Author.Needs.{needs}
 use Rattle.lists.proofs.named_by.Statement.{statement}
 use Rattle.lists.proofs.named_by.Tie as tie
 use Rattle.lists.proofs.named_by.Reads as reads

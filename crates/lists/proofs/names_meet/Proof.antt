@@ -1,10 +1,6 @@
 -- `lists::names_meet` meets its contract: the definition's tests are the code's.
-use mathlib.Core.Path.{_≡_, refl, sym, ap, _∙_}
-use mathlib.Core.Bool.{Bool, true, false, not, cond}
-use native.Mathlib.Omega.{arith}
-use borrow.Author.Tests.{eq-eqb, ne-eqb, lt-ltb, le-ltb}
+use borrow.Author.Tests.{eq-eqb, ne-eqb}
 use Rattle.rules.specs.Collecting.{namesMeet}
-use borrow.Author.Needs.{needs}
 use Rattle.lists.proofs.names_meet.Statement.{statement}
 use Rattle.lists.proofs.names_meet.Tie as tie
 use Rattle.lists.proofs.names_meet.Reads as reads

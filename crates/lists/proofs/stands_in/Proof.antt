@@ -2,7 +2,7 @@
 -- `from` on.
 use Prim.Native.Nat.{_-_, min}
 use native.Mathlib.Omega.{arith}
-use mathlib.Core.Path.{_≡_, refl, ap, _∙_}
+use mathlib.Core.Path.{_≡_, refl}
 use mathlib.Core.Logic.{⊎-elim}
 use lib.ListN.{length, drop}
 use Rattle.rules.specs.Field.{pair}

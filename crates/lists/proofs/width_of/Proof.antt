@@ -1,11 +1,7 @@
 -- `lists::width_of` meets its contract: the definition's tests are the code's.
-use mathlib.Core.Path.{_≡_, refl, sym, ap, _∙_}
-use mathlib.Core.Bool.{Bool, true, false, not, cond}
-use native.Mathlib.Omega.{arith}
-use borrow.Author.Tests.{eq-eqb, ne-eqb, lt-ltb, le-ltb}
+use borrow.Author.Tests.{eq-eqb, ne-eqb}
 use Rattle.rules.specs.Field.{width}
 use Rattle.rules.specs.Collecting.{keyWidth}
-use borrow.Author.Needs.{needs}
 use Rattle.lists.proofs.width_of.Statement.{statement}
 use Rattle.lists.proofs.width_of.Tie as tie
 use Rattle.lists.proofs.width_of.Reads as reads

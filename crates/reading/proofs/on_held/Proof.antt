@@ -1,6 +1,5 @@
 -- `reading::on_held` meets its contract, case by case.
-use Prim.Native.Nat.{ℕ}
-use mathlib.Core.Path.{_≡_, refl, sym, _∙_}
+use mathlib.Core.Path.{sym, _∙_}
 use borrow.Author.Tests.{not-true, not-false}
 use Rattle.reading.specs.Steps.{HeldStep}
 use Rattle.reading.proofs.HeldLaws.{step-state, step-none, step-added, step-long, step-opened, step-shown}

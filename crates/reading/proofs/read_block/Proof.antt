@@ -1,6 +1,5 @@
 -- `reading::read_block` meets its contract: the table's own test, the block's length, and one block of a run.
-use Prim.Native.Nat.{ℕ}
-use mathlib.Core.Path.{_≡_, refl, sym, ap, _∙_}
+use mathlib.Core.Path.{ap, _∙_}
 use borrow.Author.Tests.{not-true, not-false}
 use Rattle.rules.specs.declared.Outcome.the-variants.{WrongTable}
 use Rattle.table.specs.Stored.{stored}

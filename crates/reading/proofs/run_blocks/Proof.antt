@@ -1,8 +1,8 @@
 -- `reading::run_blocks` meets its contract: each turn takes one field of the present block or judges the next block, and what is
 -- left to do makes the whole.
-use Prim.Native.Nat.{ℕ, _+_, _-_, _<_, _≤_}
+use Prim.Native.Nat.{_+_, _-_}
 use native.Mathlib.Omega.{arith}
-use mathlib.Core.Path.{_≡_, refl, sym, ap, _∙_}
+use mathlib.Core.Path.{sym, _∙_}
 use mathlib.Core.Logic.{⊎-elim}
 use lib.ListN.{length, getD}
 use Rattle.block.specs.Judged.{noSpot}
@@ -10,7 +10,7 @@ use borrow.Author.Tests.{not-true, not-false}
 use Rattle.table.specs.Stored.{Stored}
 use Rattle.reading.proofs.RunLaws.{Going, going-first, going-end}
 use Rattle.reading.proofs.StepLaws.{setAt}
-use Rattle.reading.proofs.Turns.{Fits', fits-now, table-short, place-short, body-of, block-part, judged-few, turn-shows, turn-keeps, turn-new, turn-same, turn-taken, turn-refused}
+use Rattle.reading.proofs.Turns.{fits-now, place-short, body-of, block-part, judged-few, turn-shows, turn-keeps, turn-new, turn-same, turn-taken, turn-refused}
 use borrow.Author.Needs.{needs}
 use Rattle.reading.proofs.run_blocks.Statement.{statement}
 use Rattle.reading.proofs.run_blocks.Tie as tie

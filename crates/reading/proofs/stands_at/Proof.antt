@@ -1,9 +1,6 @@
 -- `reading::stands_at` meets its contract: past the keys a key counts as 0.
-use mathlib.Core.Path.{_≡_, refl, sym, ap, _∙_}
-use mathlib.Core.Bool.{Bool, true, false, not, cond, _&&_}
-use borrow.Author.Tests.{eq-eqb, ne-eqb, lt-ltb, le-ltb, not-true, not-false}
+use borrow.Author.Tests.{lt-ltb, le-ltb}
 use lib.ListN.{List·getD-eq-default}
-use lib.Dec.{eqb}
 use borrow.Author.Needs.{needs}
 use Rattle.reading.proofs.stands_at.Statement.{statement}
 use Rattle.reading.proofs.stands_at.Tie as tie

@@ -2,8 +2,8 @@
 use Prim.Native.Nat.{_-_, _≤_}
 use native.Mathlib.Omega.{arith}
 use mathlib.Core.Path.{sym, _∙_, ap}
+use Rattle.rules.specs.Arrays.{padded}
 use Rattle.rules.specs.Collecting.{keyWidth}
-use Rattle.lists.specs.Stored.{padded}
 use Rattle.sheet.specs.Reading.{pairRead}
 use Rattle.sheet.proofs.Pairs.{Gathered, list-start, list-long, list-wrong, list-next, list-end}
 use borrow.Author.Needs.{needs}

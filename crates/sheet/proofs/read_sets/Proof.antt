@@ -3,7 +3,7 @@ use Prim.Native.Nat.{_-_, _≤_}
 use native.Mathlib.Omega.{arith}
 use mathlib.Core.Path.{_∙_}
 use borrow.Author.Tests.{not-true, not-false}
-use Rattle.lists.specs.Stored.{padded}
+use Rattle.rules.specs.Arrays.{padded}
 use Rattle.sheet.proofs.Sets.{Filled, sets-start, sets-wrong, sets-next, sets-made}
 use borrow.Author.Needs.{needs}
 use Rattle.sheet.proofs.read_sets.Statement.{statement}

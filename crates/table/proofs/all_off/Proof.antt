@@ -1,8 +1,7 @@
 -- `table::all_off` meets its contract: the flags from the present place on answer for all of them.
-use Prim.Native.Nat.{_+_, _-_, min}
-use native.Mathlib.Omega.{arith}
-use mathlib.Core.Path.{_≡_, refl, sym, _∙_}
-use lib.ListN.{length, take, drop}
+use Prim.Native.Nat.{_-_}
+use mathlib.Core.Path.{_≡_, refl}
+use lib.ListN.{length, drop}
 use Rattle.table.specs.Places.{allOff}
 use Rattle.table.proofs.Loops.{off-next, off-not, off-end}
 use borrow.Author.Needs.{needs}

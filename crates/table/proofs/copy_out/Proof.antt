@@ -1,12 +1,7 @@
 -- `table::copy_out` meets its contract: the key stands at its place or nowhere, and what is handed out is the stored set.
-use Prim.Native.Nat.{ℕ}
 use native.Mathlib.Omega.{arith}
-use mathlib.Core.Path.{_≡_, refl, sym, ap, _∙_}
-use mathlib.Core.List.{List}
+use mathlib.Core.Path.{_∙_}
 use borrow.Author.Tests.{not-true, not-false}
-use Rattle.rules.specs.Outcomes.{notCopied}
-use Rattle.table.specs.declared.Copied.{Copied}
-use Rattle.table.specs.Answers.{copiedAs}
 use Rattle.table.proofs.GivenLaws.{is-here, not-past, not-other, given-wrong, given-right, tested-short, tested-shown}
 use Rattle.table.proofs.CopyOut.{not-copied-as, copied-as, copies-missing, copies-not-shown, copies-short, copies-short-kinds, copies-done}
 use borrow.Author.Needs.{needs}

@@ -1,11 +1,11 @@
 -- `table::copy_u32` meets its contract: the values passed are those of the copy.
-use Prim.Native.Nat.{_+_, _-_, _≤_}
+use Prim.Native.Nat.{_-_, _≤_}
 use native.Mathlib.Omega.{arith}
-use mathlib.Core.Path.{_≡_, sym, _∙_}
+use mathlib.Core.Path.{_≡_}
 use lib.ListN.{length, take, length-set}
 use Rattle.rules.specs.Outcomes.{overwritten}
 use Rattle.table.proofs.Shifts.{blend}
-use Rattle.table.proofs.Copies.{copy-first, copy-next, copy-end, length-now}
+use Rattle.table.proofs.Copies.{copy-first, copy-next, copy-end}
 use borrow.Author.Needs.{needs}
 use Rattle.table.proofs.copy_u32.Statement.{statement}
 use Rattle.table.proofs.copy_u32.Tie as tie

@@ -1,11 +1,9 @@
 -- `table::forget_key` meets its contract: the key stands at its place or nowhere.
-use Prim.Native.Nat.{ℕ, _-_}
+use Prim.Native.Nat.{_-_}
 use native.Mathlib.Omega.{arith}
-use mathlib.Core.Path.{_≡_, refl, sym, ap, _∙_}
+use mathlib.Core.Path.{refl, _∙_}
 use borrow.Author.Tests.{not-true, not-false}
 use Rattle.rules.specs.declared.Outcome.the-variants.{Done}
-use Rattle.table.specs.declared.Table.{Table}
-use Rattle.table.specs.declared.Forgotten.{Forgotten}
 use Rattle.table.proofs.GivenLaws.{is-here, not-past, not-other, forgets-missing, forgets-held, shutTable, given-wrong, given-right, tested-short}
 use borrow.Author.Needs.{needs}
 use Rattle.table.proofs.forget_key.Statement.{statement}

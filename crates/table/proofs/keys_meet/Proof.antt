@@ -1,7 +1,6 @@
 -- `table::keys_meet` meets its contract: the keys from the present place on, after the last one passed, answer for all of them.
-use Prim.Native.Nat.{_+_, _-_, min}
-use native.Mathlib.Omega.{arith}
-use mathlib.Core.Path.{_≡_, refl, sym, _∙_}
+use Prim.Native.Nat.{_-_, min}
+use mathlib.Core.Path.{_≡_, refl}
 use lib.ListN.{length, take, drop}
 use Rattle.table.specs.Places.{keysMeet}
 use Rattle.table.proofs.Loops.{keys-next, keys-not-after, keys-not-below, keys-not-numbered, keys-end}

@@ -1,9 +1,9 @@
 -- `table::lists_meet` meets its contract: the lists passed are what they should be.
 use Prim.Native.Nat.{ℕ, _-_, _<_, _≤_}
 use native.Mathlib.Omega.{arith}
-use mathlib.Core.Path.{_≡_, refl, sym, _∙_}
+use mathlib.Core.Path.{refl}
 use lib.ListN.{getD}
-use borrow.Author.Count.{below-none, below-more}
+use borrow.Author.Count.{below-more}
 use borrow.Author.Tests.{not-true, not-false}
 use Rattle.lists.specs.Stored.{Holds}
 use Rattle.lists.proofs.StoredLaws.{refuted, passed, fails}

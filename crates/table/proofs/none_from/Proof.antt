@@ -1,7 +1,7 @@
 -- `table::none_from` meets its contract: the places passed have no list.
 use Prim.Native.Nat.{ℕ, _-_, _<_, _≤_}
 use native.Mathlib.Omega.{arith}
-use mathlib.Core.Path.{_≡_, refl, sym, _∙_}
+use mathlib.Core.Path.{_≡_}
 use lib.ListN.{getD}
 use borrow.Author.Count.{below-more}
 use Rattle.lists.proofs.StoredLaws.{refuted, passed}

@@ -1,13 +1,9 @@
 -- `table::open_u32` meets its contract: with the new value at its place, the values passed are those of the opened array.
-use Prim.Native.Nat.{_+_, _-_, _<_, _≤_}
+use Prim.Native.Nat.{_-_, _<_}
 use native.Mathlib.Omega.{arith}
-use mathlib.Core.Path.{_≡_, refl, sym, ap, _∙_}
-use mathlib.Core.Bool.{false}
+use mathlib.Core.Path.{_≡_}
 use lib.ListN.{length, set}
-use Rattle.lists.specs.Stored.{emptyList}
-use Rattle.table.specs.Places.{opened, shut}
-use Rattle.table.specs.Stored.{past}
-use Rattle.table.proofs.TableLaws.{length-of-map}
+use Rattle.table.specs.Places.{opened}
 use Rattle.table.proofs.Shifts.{blend, open-first, open-next, open-last}
 use borrow.Author.Needs.{needs}
 use Rattle.table.proofs.open_u32.Statement.{statement}

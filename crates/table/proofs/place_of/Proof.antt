@@ -1,8 +1,7 @@
 -- `table::place_of` meets its contract: the places passed and those to the key among the rest make up its place.
 use Prim.Native.Nat.{_+_, _-_, min}
 use native.Mathlib.Nat.{zero-add}
-use native.Mathlib.Omega.{arith}
-use mathlib.Core.Path.{_≡_, refl, sym, _∙_}
+use mathlib.Core.Path.{_≡_}
 use lib.ListN.{length, take, drop}
 use Rattle.table.specs.Places.{placeIn}
 use Rattle.table.proofs.Loops.{place-here, place-next, place-end}

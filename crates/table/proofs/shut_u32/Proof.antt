@@ -1,13 +1,9 @@
 -- `table::shut_u32` meets its contract: the values passed are those of the shut array.
-use Prim.Native.Nat.{_+_, _-_, _<_, _≤_}
+use Prim.Native.Nat.{_-_, _<_, _≤_}
 use native.Mathlib.Omega.{arith}
-use mathlib.Core.Path.{_≡_, refl, sym, ap, _∙_}
-use mathlib.Core.Bool.{false}
-use lib.ListN.{length, set}
-use Rattle.lists.specs.Stored.{emptyList}
-use Rattle.table.specs.Places.{opened, shut}
-use Rattle.table.specs.Stored.{past}
-use Rattle.table.proofs.TableLaws.{length-of-map}
+use mathlib.Core.Path.{_≡_, refl}
+use lib.ListN.{length}
+use Rattle.table.specs.Places.{shut}
 use Rattle.table.proofs.Shifts.{blend, shut-first, shut-next, shut-end}
 use borrow.Author.Needs.{needs}
 use Rattle.table.proofs.shut_u32.Statement.{statement}

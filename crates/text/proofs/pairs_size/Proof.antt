@@ -3,7 +3,7 @@ use Prim.Native.Nat.{ℕ, _+_, _*_, _≤_}
 use native.Mathlib.Nat.{mul-le-mul}
 use native.Mathlib.Omega.{arith}
 use mathlib.Core.Path.{ap}
-use Rattle.rules.proofs.SheetLaws.{width-most}
+use Rattle.rules.proofs.TableRules.{width-most}
 use Rattle.text.proofs.pairs_size.Statement.{statement}
 use Rattle.text.proofs.pairs_size.Tie as tie
 

@@ -2,8 +2,8 @@
 use native.Mathlib.Omega.{arith}
 use Rattle.rules.specs.Field.{pair}
 use Rattle.rules.specs.Listing.{pairText}
+use Rattle.rules.proofs.TableRules.{width-most}
 use Rattle.out.proofs.Runs.{puts-as, puts-then}
-use Rattle.rules.proofs.SheetLaws.{width-most}
 use borrow.Author.Needs.{needs}
 use Rattle.text.proofs.put_pair.Statement.{statement}
 use Rattle.text.proofs.put_pair.Tie as tie

@@ -1,13 +1,10 @@
 -- `lists::IdList::meets` meets its contract: each test reads off one of the facts that a stored list has, and together they are
 -- enough.
-use Prim.Native.Nat.{ℕ}
 use native.Mathlib.Omega.{arith}
-use mathlib.Core.Path.{_≡_, refl, sym, _∙_}
-use mathlib.Core.Bool.{true, false, false≢true}
+use mathlib.Core.Path.{_≡_, sym, _∙_}
 use lib.ListN.{length}
-use lib.Dec.{eqb}
 use borrow.Author.Tests.{not-true, not-false}
-use Rattle.lists.proofs.StoredLaws.{holds-facts, Facts, holds-by, refuted, fails, tested-empty}
+use Rattle.lists.proofs.StoredLaws.{holds-facts, holds-by, refuted, fails, tested-empty}
 use borrow.Author.Needs.{needs}
 use Rattle.lists.proofs.IdList.meets.Statement.{statement}
 use Rattle.lists.proofs.IdList.meets.Tie as tie

@@ -1,15 +1,12 @@
 -- `lists::IdList::with_field` meets its contract: what is left to add to the list so far makes the whole.
-use Prim.Native.Nat.{ℕ, _+_, _-_, _≤_, _<_, _^_}
+use Prim.Native.Nat.{_-_, _≤_, _<_, _^_}
 use native.Mathlib.Omega.{arith}
-use mathlib.Core.Path.{_≡_, refl, sym, ap, _∙_}
+use mathlib.Core.Path.{_≡_, refl, sym, _∙_}
 use mathlib.Core.Bool.{false}
 use mathlib.Core.Logic.{⊎-elim}
 use mathlib.Core.Option.{none, some}
 use borrow.Author.Tests.{not-true, not-false}
 use Rattle.rules.specs.Field.{pair}
-use Rattle.lists.specs.declared.IdList.{IdList}
-use Rattle.lists.specs.declared.Grown.{Grown}
-use Rattle.lists.specs.Stored.{emptyList}
 use Rattle.lists.specs.Grown.{put, grown, grownAs, fieldPairs, renamed}
 use Rattle.lists.proofs.GrownLaws.{grown-there, grown-put, grown-full, grown-end, grown-first, grown-from, with-field-is}
 use borrow.Author.Needs.{needs}

@@ -1,9 +1,6 @@
 -- `reading::Notes::none` meets its contract: the two are the same.
-use mathlib.Core.Path.{_≡_, refl, sym, ap, _∙_}
-use mathlib.Core.Bool.{Bool, true, false, not, cond, _&&_}
-use borrow.Author.Tests.{eq-eqb, ne-eqb, lt-ltb, le-ltb, not-true, not-false}
+use mathlib.Core.Path.{refl}
 use Rattle.reading.specs.Steps.{noNotes}
-use borrow.Author.Needs.{needs}
 use Rattle.reading.proofs.Notes.none.Statement.{statement}
 use Rattle.reading.proofs.Notes.none.Tie as tie
 use Rattle.reading.proofs.Notes.none.Reads as reads

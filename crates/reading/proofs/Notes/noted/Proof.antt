@@ -1,7 +1,5 @@
 -- `reading::Notes::noted` meets its contract: one store and the count.
-use mathlib.Core.Path.{_≡_, refl, sym, ap, _∙_}
-use mathlib.Core.Bool.{Bool, true, false, not, cond, _&&_}
-use borrow.Author.Tests.{eq-eqb, ne-eqb, lt-ltb, le-ltb, not-true, not-false}
+use mathlib.Core.Path.{refl}
 use Rattle.reading.specs.Steps.{notedAt}
 use borrow.Author.Needs.{needs}
 use Rattle.reading.proofs.Notes.noted.Statement.{statement}

@@ -1,10 +1,10 @@
 -- `table::Table::empty` meets its contract: it is the table of no entries around the list that is none.
 use borrow.Author.Needs.{needs}
-use mathlib.Core.Path.{_≡_, ap}
+use mathlib.Core.Path.{ap}
 use mathlib.Core.Bool.{false}
 use lib.ListN.{replicate}
+use Rattle.rules.specs.Arrays.{padded}
 use Rattle.lists.specs.declared.IdList.{IdList}
-use Rattle.lists.specs.Stored.{padded}
 use Rattle.table.specs.declared.Table.{Table}
 use Rattle.table.specs.Stored.{storeTable}
 use Rattle.table.proofs.Table.empty.Statement.{statement}

@@ -1,12 +1,12 @@
 -- `table::Table::meets` meets its contract: each test reads off one of the facts that a stored table has, and together they are
 -- enough.
-use Prim.Native.Nat.{ℕ}
 use native.Mathlib.Omega.{arith}
 use mathlib.Core.Path.{_≡_, refl, sym, _∙_}
 use lib.ListN.{length}
 use borrow.Author.Tests.{not-true, not-false}
+use Rattle.rules.proofs.Basics.{length-of-map}
 use Rattle.lists.proofs.StoredLaws.{refuted, fails}
-use Rattle.table.proofs.TableLaws.{TableFacts, stored-facts, facts-stored, length-of-map}
+use Rattle.table.proofs.TableLaws.{stored-facts, facts-stored}
 use borrow.Author.Needs.{needs}
 use Rattle.table.proofs.Table.meets.Statement.{statement}
 use Rattle.table.proofs.Table.meets.Tie as tie

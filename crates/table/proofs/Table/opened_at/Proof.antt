@@ -1,11 +1,7 @@
 -- `table::Table::opened_at` meets its contract: the definition's tests are the code's, and each column is opened.
-use Prim.Native.Nat.{ℕ, _+_}
-use native.Mathlib.Omega.{arith}
-use mathlib.Core.Path.{_≡_, refl, sym, ap, _∙_}
-use lib.ListN.{length}
+use Prim.Native.Nat.{_+_}
+use mathlib.Core.Path.{ap, _∙_}
 use borrow.Author.Tests.{lt-ltb, le-ltb}
-use Rattle.lists.specs.Stored.{emptyList}
-use Rattle.table.specs.declared.Table.{Table}
 use Rattle.table.specs.Stored.{openedTable}
 use Rattle.table.specs.Places.{opened}
 use borrow.Author.Needs.{needs}
