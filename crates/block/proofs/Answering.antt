@@ -10,24 +10,22 @@ use Rattle.rules.specs.declared.Outcome.the-variants.{NotABlock, CheckFails}
 use Rattle.rules.specs.Block.{checkHolds}
 use Rattle.rules.specs.Outcomes.{verdict}
 use Rattle.block.specs.declared.Judged.{Judged}
-use Rattle.block.specs.Judged.{noSpots, Judges, isNoBlock}
+use Rattle.block.specs.Judged.{noSpots, judgedAs, judged}
 use Rattle.block.specs.Faults.{JudgesFigs}
-use Rattle.block.proofs.Placing.{no-count, refuses-as}
 
 module _ (fib : List ℕ) (r : Judged) where
-  pub judges-no-block : (length fib ≡ 32 → ⊥) → r ≡ record { outcome = NotABlock; spots = noSpots } → Judges fib r
-  unfolding verdict
-  judges-no-block l e =
-      isNoBlock (rw (ne-eqb (length fib) 32 l)) (ap (λ (x : Judged). x .outcome) e) (ap (λ (x : Judged). x .spots .count) e ∙ no-count)
+  pub judges-no-block : (length fib ≡ 32 → ⊥) → r ≡ record { outcome = NotABlock; spots = noSpots } → r ≡ judged fib
+  unfolding judged judgedAs verdict
+  judges-no-block l e = rw (ne-eqb (length fib) 32 l) e
 
   module _ (l : length fib ≡ 32) (b : Bool) (t : b ≡ (eqb (length fib) 32 && checkHolds fib)) where
     check-is : checkHolds fib ≡ b
     check-is = sym (t ∙ ap (λ (x : Bool). x && checkHolds fib) (eq-eqb (length fib) 32 l))
 
-    pub judges-check : b ≡ false → r ≡ record { outcome = CheckFails; spots = noSpots } → Judges fib r
-    unfolding verdict
-    judges-check f e = refuses-as fib (verdict fib) CheckFails r (rw (eq-eqb (length fib) 32 l, check-is ∙ f)) e
+    pub judges-check : b ≡ false → r ≡ record { outcome = CheckFails; spots = noSpots } → r ≡ judged fib
+    unfolding judged judgedAs verdict
+    judges-check f e = rw (eq-eqb (length fib) 32 l, check-is ∙ f) e
 
-    pub judges-figs : b ≡ true → JudgesFigs fib r → Judges fib r
-    unfolding verdict JudgesFigs
+    pub judges-figs : b ≡ true → JudgesFigs fib r → r ≡ judged fib
+    unfolding judged verdict JudgesFigs
     judges-figs h j = rw (eq-eqb (length fib) 32 l, check-is ∙ h) j

@@ -1,5 +1,7 @@
 -- The laws above the definitions of specs/.
+pub mod Walks
 pub mod Verdicts
-pub mod Placing
+pub mod Storing
 pub mod Loops
 pub mod Answering
+pub mod Meaning

@@ -1,17 +1,17 @@
--- What judging a block answers: the fields of a taken block with the places of the block that they stand in, or the outcome
--- that refuses it.
-use Prim.Native.Nat.{ℕ, _-_, _≤_, _<_}
-use mathlib.Core.Path.{_≡_}
-use mathlib.Core.List.{List, []}
-use lib.ListN.{length, getD, take, drop, replicate}
-use Rattle.rules.specs.declared.Outcome.{Outcome}
+-- What judging a block answers: where the fields of a taken block stand in it, in order, or the outcome that refuses it; and
+-- what is read again at a spot.
+use Prim.Native.Nat.{ℕ, _+_, _-_}
+use mathlib.Core.Bool.{cond}
+use mathlib.Core.List.{List, [], _∷_, _++_, map}
+use lib.ListN.{length, replicate}
 use Rattle.rules.specs.declared.Outcome.the-variants.{Done, NotABlock}
-use Rattle.rules.specs.Field.{Field as FieldOf}
-use Rattle.rules.specs.Outcomes.{Verdict, taken, refused, noBlock, verdict}
+use Rattle.rules.specs.Block.{Step, item, end, wrong, Walk, whole, broken, walk, Fig, figAt}
+use Rattle.rules.specs.Field.{Field as FieldOf, isLinking, fieldAt}
+use Rattle.rules.specs.Outcomes.{Verdict, taken, refused, noBlock, joined, verdict}
 use Rattle.field.specs.declared.Field.{Field}
 use Rattle.field.specs.declared.FieldStep.{FieldStep}
 use Rattle.field.specs.declared.FieldStep.the-variants.{Found, End, Wrong}
-use Rattle.field.specs.FieldStep.{fieldStepAt, meaning}
+use Rattle.field.specs.FieldStep.{fieldStepAt}
 use Rattle.block.specs.declared.Spot.{Spot}
 use Rattle.block.specs.declared.Spots.{Spots}
 use Rattle.block.specs.declared.Judged.{Judged}
@@ -45,55 +45,75 @@ fieldOr Wrong = nothing
 unfoldable pub fieldIn : List ℕ → ℕ → Field
 fieldIn body place = fieldOr (fieldStepAt body place)
 
--- the bytes of a block that a spot's field stands in: its FIG's body
-abbrev pub bodyAt : List ℕ → Spot → List ℕ
-bodyAt fib s = take (s .end - s .start) (drop (s .start) fib)
+-- ---- the fields of a block, with where they stand
 
--- a spot of a block says a field of the rules: its body lies in the block's data, a field is found at its place of that
--- body, and means that field there
-pub record SpotIs (fib : List ℕ) (s : Spot) (g : FieldOf) : Type 0 where
-  pub ordered : s .start ≤ s .end
-  pub inside : s .end ≤ 30
-  pub means : meaning (bodyAt fib s) (fieldIn (bodyAt fib s) (s .place)) ≡ g
-  pub found : (next : ℕ) × (fieldStepAt (bodyAt fib s) (s .place) ≡ Found (fieldIn (bodyAt fib s) (s .place)) next)
+-- a field of the rules, and where it stands
+pub record Located : Type 0 where
+  pub spot : Spot
+  pub field : FieldOf
 
--- a spot with nothing in it, and spots that say no field
+-- the one and the other
+abbrev pub spotOf : Located → Spot
+spotOf l = l .spot
+
+abbrev pub fieldOf : Located → FieldOf
+fieldOf l = l .field
+
+-- a step with another item in place of its own, made of that and of the place after it
+unfoldable pub onItem : {A B : Type 0} → (A → ℕ → B) → Step A → Step B
+onItem g (item a next) = item (g a next) next
+onItem g end = end
+onItem g wrong = wrong
+
+-- the items of a walk that reaches the end
+unfoldable pub itemsOf : {A : Type 0} → Walk A → List A
+itemsOf (whole xs) = xs
+itemsOf (broken p) = []
+
+-- walks, one after the other
+unfoldable pub joinedAll : {A : Type 0} → List (Walk A) → Walk A
+joinedAll [] = whole []
+joinedAll (w ∷ ws) = joined w (joinedAll ws)
+
+-- a field at a place of a FIG's body, which is fib[start..stop]
+abbrev pub standing : ℕ → ℕ → ℕ → FieldOf → Located
+standing start stop place f = record { spot = record { start = start; end = stop; place = place }; field = f }
+
+-- the field that begins at a place of that body
+unfoldable pub locatedAt : List ℕ → ℕ → ℕ → ℕ → Step Located
+locatedAt body start stop place = onItem (λ f next. standing start stop place f) (fieldAt body place)
+
+-- the fields of a FIG with that body, none where it carries no linking
+unfoldable pub locatedOf : ℕ → ℕ → Fig → Walk Located
+locatedOf start stop fig = cond (isLinking fig) (walk (locatedAt (fig .body) start stop) (length (fig .body)) 1) (whole [])
+
+-- the fields of the FIG that begins at a place of a block
+unfoldable pub locatedFrom : List ℕ → ℕ → Step (Walk Located)
+locatedFrom fib place = onItem (λ fig next. locatedOf (place + 1) next fig) (figAt fib place)
+
+-- the fields of a block, in order
+unfoldable pub located : List ℕ → List Located
+located fib = itemsOf (joinedAll (itemsOf (walk (locatedFrom fib) 31 0)))
+
+-- ---- the answer
+
+-- a spot with nothing in it, and spots of no field
 abbrev pub noSpot : Spot
 noSpot = record { start = 0; end = 0; place = 0 }
 
 unfoldable pub noSpots : Spots
 noSpots = record { spots = replicate 14 noSpot; count = 0 }
 
--- a field of the rules with nothing in it
-abbrev pub noField : FieldOf
-noField =
-    record {
-      cn = 0;
-      oe = 0;
-      pd = 0;
-      flag = 0;
-      la = 0;
-      hard = 0;
-      ils = 0;
-      lsn = 0;
-      rfu = 0;
-      qualifier = 0;
-      shorthand = 0;
-      numbers = [];
-    }
+-- spots as they are stored: in order, and nothing in the places after them
+unfoldable pub storeSpots : List Spot → Spots
+storeSpots ss = record { spots = ss ++ replicate (14 - length ss) noSpot; count = length ss }
 
--- spots say these fields, in order
-pub record Placed (fib : List ℕ) (spots : Spots) (fs : List FieldOf) : Type 0 where
-  pub count : spots .count ≡ length fs
-  pub few : length fs ≤ 14
-  pub each : (i : ℕ) → i < length fs → SpotIs fib (getD (spots .spots) i noSpot) (getD fs i noField)
+-- the answer that says a verdict: done, and where the fields stand; or the outcome that refuses, and none
+unfoldable pub judgedAs : Verdict → List Located → Judged
+judgedAs (taken fs) ls = record { outcome = Done; spots = storeSpots (map spotOf ls) }
+judgedAs (refused o) ls = record { outcome = o; spots = noSpots }
+judgedAs noBlock ls = record { outcome = NotABlock; spots = noSpots }
 
--- an answer says a verdict on a block: done, and all the fields; or the outcome that refuses, and none
-pub data JudgedAs (fib : List ℕ) (v : Verdict) (r : Judged) : Type 0 where
-  isTaken : (fs : List FieldOf) → v ≡ taken fs → r .outcome ≡ Done → Placed fib (r .spots) fs → JudgedAs fib v r
-  isRefused : (o : Outcome) → v ≡ refused o → r .outcome ≡ o → r .spots .count ≡ 0 → JudgedAs fib v r
-  isNoBlock : v ≡ noBlock → r .outcome ≡ NotABlock → r .spots .count ≡ 0 → JudgedAs fib v r
-
--- it says the verdict of the rules
-abbrev pub Judges : List ℕ → Judged → Type 0
-Judges fib r = JudgedAs fib (verdict fib) r
+-- what a block is judged to be
+unfoldable pub judged : List ℕ → Judged
+judged fib = judgedAs (verdict fib) (located fib)

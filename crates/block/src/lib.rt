@@ -4,7 +4,7 @@
 ghost use mathlib.Core.Path.{_≡_};
 ghost use Prim.Native.Nat.{min};
 ghost use lib.ListN.{length};
-ghost use Rattle.block.specs.Judged.{noSpots, nothing, fieldIn, Judges};
+ghost use Rattle.block.specs.Judged.{nothing, fieldIn, noSpots, judged};
 ghost use Rattle.block.specs.Faults.{faultIn, JudgesFigs, Concludes, CanPush, Pushes};
 use field::Field;
 use field::FieldStep;
@@ -20,7 +20,7 @@ pub struct Spot {
     pub place: u8,
 }
 
-// The fields of a block, in order: the first count places. A block has 14 at most.
+// The fields of a block, in order: the first count places, with nothing in the others. A block has 14 at most.
 pub struct Spots {
     pub spots: [Spot; 14],
     pub count: usize,
@@ -199,7 +199,7 @@ fn judge_figs(fib: &[u8]) -> Judged
 
 // What is in a block: taken, with its fields, or refused (1 to 6 in that order, each over the whole block before the next).
 pub fn judge(fib: &[u8]) -> Judged
-    ensures { λ r. ⌜ Judges (now (fib .entry)) r ⌝ }
+    ensures { λ r. ⌜ r ≡ judged (now (fib .entry)) ⌝ }
 {
     if fib.len() != 32 {
         return refuse(Outcome::NotABlock);

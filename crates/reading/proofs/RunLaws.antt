@@ -29,7 +29,8 @@ use Rattle.rules.proofs.Arrays.{set-column}
 use Rattle.table.specs.declared.Table.{Table}
 use Rattle.table.specs.Stored.{storeTable}
 use Rattle.block.specs.declared.Spots.{Spots}
-use Rattle.block.specs.Judged.{Placed, noSpots, noField, SpotIs, noSpot}
+use Rattle.block.specs.Judged.{noSpots, noSpot}
+use Rattle.block.proofs.Meaning.{SpotIs, noField, Placed}
 use Rattle.reading.specs.declared.Notes.{Notes}
 use Rattle.reading.specs.declared.Answer.{Answer as Run}
 use Rattle.reading.specs.Steps.{storeNotes, notedAs, notedAt, noNotes}

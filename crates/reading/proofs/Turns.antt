@@ -44,7 +44,8 @@ use Rattle.table.proofs.CopyOut.{column-at, entry-at}
 use Rattle.block.specs.declared.Spot.{Spot}
 use Rattle.block.specs.declared.Spots.{Spots}
 use Rattle.block.specs.declared.Judged.{Judged}
-use Rattle.block.specs.Judged.{fieldIn, SpotIs, bodyAt, noSpot, Placed, Judges, isTaken, isRefused, isNoBlock}
+use Rattle.block.specs.Judged.{fieldIn, noSpot}
+use Rattle.block.proofs.Meaning.{bodyAt, SpotIs, Placed, JudgedAs, isTaken, isRefused, isNoBlock}
 use Rattle.reading.specs.declared.Stepped.{Stepped}
 use Rattle.reading.specs.declared.Notes.{Notes}
 use Rattle.reading.specs.Steps.{isShowing, steppedAs, HeldStep, opensIn, unheldNote, notedAt, noNotes, isDone}
@@ -361,7 +362,7 @@ done-is NotASheet e = absurd (false≢true e)
 done-is NotShown e = absurd (false≢true e)
 
 -- a judged block has at most 14 spots
-pub judged-few : (fib : List ℕ) (r : Judged) → Judges fib r → r .spots .count ≤ 14
+pub judged-few : (fib : List ℕ) (r : Judged) → JudgedAs fib (verdict fib) r → r .spots .count ≤ 14
 judged-few fib r (isTaken fs v d p) = omega (arith, p .count, p .few)
 judged-few fib r (isRefused o v d z) = omega arith
 judged-few fib r (isNoBlock v d z) = omega arith
@@ -388,13 +389,13 @@ module _ (bytes : List ℕ) (t₀ t : Table) (notes : Notes) (o : Outcome) (spot
       ∙ ap (λ (m : ℕ). record { count = m; keys = storeTable (G .now') .keys; on = storeTable (G .now') .on; shown = storeTable (G .now') .shown; draft = replicate 32 emptyList }) (count-of (storeTable (G .now')) (G .now') refl)
       ∙ sym (store-closed (G .now') (table-rules (G .now') .0 (G .now-meets) .short))
 
-  pub turn-taken : Judges part r → isDone (r .outcome) ≡ true → Going bytes t₀ t notes' (r .outcome) (r .spots) at (at + 32) 0
+  pub turn-taken : JudgedAs part (verdict part) r → isDone (r .outcome) ≡ true → Going bytes t₀ t notes' (r .outcome) (r .spots) at (at + 32) 0
   turn-taken (isTaken fs v d p) y =
       going-taken bytes t₀ t notes o spots from at i G h l b256 fs (r .spots) notes' (r .outcome) (ap verdict (sym part-is) ∙ v) (subst (λ (x : List ℕ). Placed x (r .spots) fs) part-is p) none' d
   turn-taken (isRefused q v d z) y = absurd (refused-not-done part q v (done-is q (sym (ap isDone d) ∙ y)))
   turn-taken (isNoBlock v d z) y = absurd (never-none v)
 
-  pub turn-refused : Judges part r → isDone (r .outcome) ≡ false → (none'' : IdList) → none'' ≡ emptyList
+  pub turn-refused : JudgedAs part (verdict part) r → isDone (r .outcome) ≡ false → (none'' : IdList) → none'' ≡ emptyList
       → Going bytes t₀ (record { count = t .count; keys = t .keys; on = t .on; shown = t .shown; draft = replicate 32 none'' }) notes' (r .outcome) (r .spots) at (at + 32) 0
   unfolding isDone
   turn-refused (isTaken fs v d p) y n ne = absurd (true≢false (sym (ap isDone d) ∙ y))

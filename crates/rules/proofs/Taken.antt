@@ -279,12 +279,12 @@ fields-bits fig fs b h =
     (walk-goes (fieldAt (fig .body)) (length (fig .body)) 1 fs h)
 
 -- two walks, one after the other
-pub joined-whole {ℓ} : {C : Type ℓ} (v w : Walk Field) (fs : List Field) → joined v w ≡ whole fs
-    → ((xs ys : List Field) → v ≡ whole xs → w ≡ whole ys → fs ≡ xs ++ ys → C) → C
+pub joined-whole {ℓ} : {A : Type 0} {C : Type ℓ} (v w : Walk A) (zs : List A) → joined v w ≡ whole zs
+    → ((xs ys : List A) → v ≡ whole xs → w ≡ whole ys → zs ≡ xs ++ ys → C) → C
 unfolding joined
-joined-whole (whole xs) (whole ys) fs h c = c xs ys refl refl (sym (whole-is (xs ++ ys) fs h))
-joined-whole (whole xs) (broken p) fs h c = broken-whole p fs h
-joined-whole (broken p) w fs h c = broken-whole p fs h
+joined-whole (whole xs) (whole ys) zs h c = c xs ys refl refl (sym (whole-is (xs ++ ys) zs h))
+joined-whole (whole xs) (broken p) zs h c = broken-whole p zs h
+joined-whole (broken p) w zs h c = broken-whole p zs h
 
 -- what the fields of every linking FIG have
 pub all-every : (P : Field → Type 0) (gs : List Fig) → Every (λ fig. (fs : List Field) → fieldsOf fig ≡ whole fs → Every P fs) gs

@@ -49,9 +49,10 @@ pub data Verdict : Type 0 where
   refused : Outcome → Verdict
   noBlock : Verdict
 
-unfoldable pub joined : Walk Field → Walk Field → Walk Field
-joined (whole fs) (whole gs) = whole (fs ++ gs)
-joined (whole fs) (broken p) = broken p
+-- two walks, one after the other
+unfoldable pub joined : {A : Type 0} → Walk A → Walk A → Walk A
+joined (whole xs) (whole ys) = whole (xs ++ ys)
+joined (whole xs) (broken p) = broken p
 joined (broken p) rest = broken p
 
 -- the fields of all linking FIGs, in order; the other FIGs are stepped over

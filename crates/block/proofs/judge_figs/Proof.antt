@@ -1,4 +1,4 @@
--- `block::judge_figs` meets its contract. The loop's invariant: the verdict on the block's FIGs is that from here on. The
+-- `block::judge_figs` meets its contract. The loop's invariant: the answer to the block's FIGs is that from here on. The
 -- measure is what is left of the block's data.
 -- Assumes nothing.
 use Prim.Native.Nat.{_-_, _≤_, _<_}

@@ -1,12 +1,11 @@
--- `block::push_fields` meets its contract. The loop's invariant: the verdict from before the body is that from here, whatever
+-- `block::push_fields` meets its contract. The loop's invariant: the answer from before the body is that from here, whatever
 -- comes after the body. The measure is what is left of the body.
 -- Assumes nothing.
 use Prim.Native.Nat.{ℕ, _-_, min}
 use native.Mathlib.Omega.{arith}
-use mathlib.Core.Path.{_≡_, sym, ap, _∙_, subst}
-use lib.ListN.{length}
+use mathlib.Core.Path.{sym, ap, _∙_, subst}
 use borrow.Author.Needs.{needs}
-use Rattle.block.proofs.Placing.{length-of-map, withSpot}
+use Rattle.block.proofs.Storing.{withSpot}
 use Rattle.block.proofs.Loops.{FieldsSoFar, fields-first, fields-next, fields-end, fields-wrong, field-room, field-goes-on}
 use Rattle.block.proofs.push_fields.Statement.{statement}
 use Rattle.block.proofs.push_fields.Tie as tie
@@ -29,8 +28,7 @@ part-body-end c = search needs
 loop-holds : tie.Need-loop-holds Inv-loop μ-loop
 loop-holds c =
     let b = c .before .before .before in
-    let long : length (b .args .before .spots .spots) ≡ 14 = search (length-of-map, needs) in
-    fields-first (b .args .fib .now) (b .args .start) (b .args .end) (b .args .before) (b .pre) long
+    fields-first (b .args .fib .now) (b .args .start) (b .args .end) (b .args .before) (b .pre)
 
 field-at-requires : tie.Need-field-at-requires Inv-loop μ-loop
 field-at-requires c κs = search needs

@@ -6,6 +6,7 @@ use mathlib.Core.Path.{sym, _∙_}
 use mathlib.Core.Logic.{⊎-elim}
 use lib.ListN.{length, getD}
 use Rattle.block.specs.Judged.{noSpot}
+use Rattle.block.proofs.Meaning.{says}
 use borrow.Author.Tests.{not-true, not-false}
 use Rattle.table.specs.Stored.{Stored}
 use Rattle.reading.proofs.RunLaws.{Going, going-first, going-end}
@@ -236,16 +237,16 @@ is-done-requires : tie.Need-is-done-requires Inv-loop μ-loop
 is-done-requires c κs = search needs
 
 loop-less-4 : tie.Need-loop-less-4 Inv-loop μ-loop
-loop-less-4 c = let w = judged-few _ _ (c .before .before .before .before .judge .ensures) in let z = c .before .before .before .before .before .before .before .if1 .left in let y = c .before .before .before .before .before .before .if5 .left in omega arith
+loop-less-4 c = let w = judged-few _ _ (says _ (c .before .before .before .before .judge .ensures)) in let z = c .before .before .before .before .before .before .before .if1 .left in let y = c .before .before .before .before .before .before .if5 .left in omega arith
 
 loop-again-4 : tie.Need-loop-again-4 Inv-loop μ-loop
-loop-again-4 c = turn-refused _ _ _ _ _ _ _ _ _ (c .before .before .before .before .before .before .before .before .loop .inv) (c .before .before .before .before .before .before .before .if1 .left) (c .before .before .before .before .before .before .if5 .left) (λ j. c .before .before .before .before .before .before .before .before .before .before .before .before .shared-slice-known .given j .fits) _ (block-part (c .before .before .before .before .before .before .before .before .before .before .before .before .before .args .bytes .now) (c .before .before .before .before .before .before .before .before .loop .at)) (c .before .before .before .before .judge .result) _ (c .before .before .none2 .ensures) (c .before .before .before .before .judge .ensures) (sym (c .before .is-done .ensures) ∙ not-true _ (c .if6 .taken)) _ (c .before .before .before .before .before .before .before .before .before .before .before .empty .ensures)
+loop-again-4 c = turn-refused _ _ _ _ _ _ _ _ _ (c .before .before .before .before .before .before .before .before .loop .inv) (c .before .before .before .before .before .before .before .if1 .left) (c .before .before .before .before .before .before .if5 .left) (λ j. c .before .before .before .before .before .before .before .before .before .before .before .before .shared-slice-known .given j .fits) _ (block-part (c .before .before .before .before .before .before .before .before .before .before .before .before .before .args .bytes .now) (c .before .before .before .before .before .before .before .before .loop .at)) (c .before .before .before .before .judge .result) _ (c .before .before .none2 .ensures) (says _ (c .before .before .before .before .judge .ensures)) (sym (c .before .is-done .ensures) ∙ not-true _ (c .if6 .taken)) _ (c .before .before .before .before .before .before .before .before .before .before .before .empty .ensures)
 
 loop-less-5 : tie.Need-loop-less-5 Inv-loop μ-loop
-loop-less-5 c = let w = judged-few _ _ (c .before .before .before .before .judge .ensures) in let z = c .before .before .before .before .before .before .before .if1 .left in let y = c .before .before .before .before .before .before .if5 .left in omega arith
+loop-less-5 c = let w = judged-few _ _ (says _ (c .before .before .before .before .judge .ensures)) in let z = c .before .before .before .before .before .before .before .if1 .left in let y = c .before .before .before .before .before .before .if5 .left in omega arith
 
 loop-again-5 : tie.Need-loop-again-5 Inv-loop μ-loop
-loop-again-5 c = turn-taken _ _ _ _ _ _ _ _ _ (c .before .before .before .before .before .before .before .before .loop .inv) (c .before .before .before .before .before .before .before .if1 .left) (c .before .before .before .before .before .before .if5 .left) (λ j. c .before .before .before .before .before .before .before .before .before .before .before .before .shared-slice-known .given j .fits) _ (block-part (c .before .before .before .before .before .before .before .before .before .before .before .before .before .args .bytes .now) (c .before .before .before .before .before .before .before .before .loop .at)) (c .before .before .before .before .judge .result) _ (c .before .before .none2 .ensures) (c .before .before .before .before .judge .ensures) (sym (c .before .is-done .ensures) ∙ not-false _ (c .if6 .left))
+loop-again-5 c = turn-taken _ _ _ _ _ _ _ _ _ (c .before .before .before .before .before .before .before .before .loop .inv) (c .before .before .before .before .before .before .before .if1 .left) (c .before .before .before .before .before .before .if5 .left) (λ j. c .before .before .before .before .before .before .before .before .before .before .before .before .shared-slice-known .given j .fits) _ (block-part (c .before .before .before .before .before .before .before .before .before .before .before .before .before .args .bytes .now) (c .before .before .before .before .before .before .before .before .loop .at)) (c .before .before .before .before .judge .result) _ (c .before .before .none2 .ensures) (says _ (c .before .before .before .before .judge .ensures)) (sym (c .before .is-done .ensures) ∙ not-false _ (c .if6 .left))
 
 pub run-blocks-spec : {M : Type 1} → statement M
 run-blocks-spec =
