@@ -1,18 +1,21 @@
 -- What an answer says to the layer above, which reads each field again at its spot: every spot of a taken block says its field of
--- the rules. In this order: what a spot, spots and an answer say; a field at a place; the fields of a block; the answer.
+-- the rules. In this order: what a spot, spots and an answer say; a field at a place; the fields of a block; the answer; its
+-- numbers.
 use Prim.Native.Nat.{ℕ, zero, suc, _+_, _-_, _≤_, _<_}
 use native.Mathlib.Nat.{le-of-suc-le-suc, not-suc-le-zero}
 use native.Mathlib.Omega.{arith}
 use mathlib.Core.Path.{_≡_, refl, sym, ap, _∙_, subst, subst₂}
 use mathlib.Core.List.{List, [], _∷_, map}
-use lib.ListN.{length, getD, take, drop, length-map, List·getD-append}
+use lib.ListN.{length, getD, take, drop, length-map}
 use Rattle.rules.specs.declared.Outcome.{Outcome}
 use Rattle.rules.specs.declared.Outcome.the-variants.{Done, NotABlock}
 use Rattle.rules.specs.Block.{item, Walk, walk, Fig, figAt}
 use Rattle.rules.specs.Field.{Field as FieldOf, isLinking, fieldAt}
-use Rattle.rules.specs.Outcomes.{Verdict, taken, refused, noBlock, verdict}
+use Rattle.rules.specs.Outcomes.{numberOf, Verdict, taken, refused, noBlock, verdict}
 use Rattle.rules.proofs.Basics.{Every, cond-both}
 use Rattle.rules.proofs.Taken.{end-item, wrong-item, item-along, FigStands, fig-item, taken-block, taken-few}
+use Rattle.rules.proofs.Arrays.{getD-padded}
+use Rattle.rules.proofs.LinkageLaws.{Refusal, full-refusal, refused-full}
 use Rattle.field.specs.declared.FieldStep.{FieldStep}
 use Rattle.field.specs.declared.FieldStep.the-variants.{Found, End, Wrong}
 use Rattle.field.specs.FieldStep.{fieldStepAt, meaning, found}
@@ -127,7 +130,7 @@ placed fib fs v =
       few = taken-few fib fs v;
       each = λ i h.
           subst₂ (λ (x : Spot) (y : FieldOf). SpotIs fib x y)
-          (sym (List·getD-append (map spotOf ls) _ noSpot i (omega arith)))
+          (sym (getD-padded 14 noSpot noSpot (map spotOf ls) i (omega arith)))
           (ap (λ (gs : List FieldOf). getD gs i noField) all)
           (each-placed fib ls (located-stands fib (b .size)) i (omega arith));
     }
@@ -145,3 +148,23 @@ judged-says fib = said-as fib (verdict fib) refl
 
 pub says : (fib : List ℕ) {r : Judged} → r ≡ judged fib → JudgedAs fib (verdict fib) r
 says fib e = subst (JudgedAs fib (verdict fib)) (sym e) (judged-says fib)
+
+-- ---- demand 1: a block is judged by one of the numbers 0 to 6
+
+pub data JudgeAnswer (fib : List ℕ) (r : Judged) : Type 0 where
+  -- 0, with one spot a field
+  done : (fs : List FieldOf) → verdict fib ≡ taken fs → numberOf (r .outcome) ≡ 0 → r .spots .count ≡ length fs → JudgeAnswer fib r
+  -- 1
+  notABlock : (length fib ≡ 32 → ⊥) → numberOf (r .outcome) ≡ 1 → r .spots ≡ noSpots → JudgeAnswer fib r
+  -- 2 to 6
+  refusedBlock : length fib ≡ 32 → 2 ≤ numberOf (r .outcome) → numberOf (r .outcome) ≤ 6 → r .spots ≡ noSpots → JudgeAnswer fib r
+
+answer-as : (fib : List ℕ) (v : Verdict) → verdict fib ≡ v → JudgeAnswer fib (judgedAs v (located fib))
+unfolding judgedAs numberOf
+answer-as fib (taken fs) e = done fs e refl (placed fib fs e .count)
+answer-as fib (refused o) e = let f = refused-full fib o e in refusedBlock (f .0) (f .1) (f .2) refl
+answer-as fib noBlock e = notABlock (λ l. subst Refusal e (full-refusal fib l)) refl refl
+
+pub judge-answers : (fib : List ℕ) (r : Judged) → r ≡ judged fib → JudgeAnswer fib r
+unfolding judged
+judge-answers fib r e = subst (JudgeAnswer fib) (sym e) (answer-as fib (verdict fib) refl)

@@ -1,18 +1,15 @@
 -- The answer to a block from what has been found so far, in this order: faults; a field more; a field that does not fit; nothing
--- more to come; nothing found yet; the fields with where they stand are those of the rules; the FIGs of a block, one more at a time;
--- a refused block is never done.
+-- more to come; nothing found yet; the fields with where they stand are those of the rules; the FIGs of a block, one more at a time.
 use Prim.Native.Nat.{ℕ, _+_, _≤_, min}
 use native.Mathlib.Omega.{arith}
 use mathlib.Core.Path.{_≡_, refl, sym, ap, ap₂, _∙_}
 use mathlib.Core.Bool.{Bool, true, false, cond, _||_}
 use mathlib.Core.List.{List, [], _∷_, _++_, map, append-assoc, append-nil}
 use lib.ListN.{length}
-use lib.Dec.{eqb}
-use Rattle.rules.specs.declared.Outcome.{Outcome}
-use Rattle.rules.specs.declared.Outcome.the-variants.{Done, CheckFails, WrongFig, WrongField, WrongValue, EmptyStart}
-use Rattle.rules.specs.Block.{Walk, whole, broken, after, walk, Fig, figAt, figs, checkHolds}
+use Rattle.rules.specs.declared.Outcome.the-variants.{WrongFig, WrongField, WrongValue, EmptyStart}
+use Rattle.rules.specs.Block.{Walk, whole, broken, after, walk, Fig, figAt, figs}
 use Rattle.rules.specs.Field.{Field as FieldOf, isLinking, fieldAt, fieldsOf, wrongValue, emptyStart}
-use Rattle.rules.specs.Outcomes.{Verdict, taken, refused, noBlock, joined, allFields, some?, judgeFields, judgeFigs, verdict}
+use Rattle.rules.specs.Outcomes.{taken, refused, joined, allFields, some?, judgeFields, judgeFigs}
 use Rattle.rules.proofs.Basics.{cond-both, cond-ap, cases-bool}
 use Rattle.rules.proofs.Taken.{broken-whole}
 use Rattle.block.specs.declared.Judged.{Judged}
@@ -189,47 +186,3 @@ figs-none fault ls h = judge-none fault ls h
 pub figs-wrong : (fault : ℕ) (ls : List Located) (p : ℕ) → judgeFigsFrom fault ls (broken p) ≡ judgedAs (refused WrongFig) []
 unfolding judgeFigsFrom
 figs-wrong fault ls p = refl
-
--- ---- a refused block is never done
-
--- a verdict that refuses does so with another outcome
-NotDone : Verdict → Type 0
-NotDone v = (o : Outcome) → v ≡ refused o → o ≡ Done → ⊥
-
-refuses : (x : Outcome) → (x ≡ Done → ⊥) → NotDone (refused x)
-unfolding NotDone
-refuses x not o e d = not (the-same ∙ d)
-  where
-    the-same : x ≡ o
-    the-same = cc
-
-takes : (fs : List FieldOf) → NotDone (taken fs)
-unfolding NotDone
-takes fs o e d = let z : _≡_ {A = ℕ} 0 1 = cc in omega arith
-
-none : NotDone noBlock
-unfolding NotDone
-none o e d = let z : _≡_ {A = ℕ} 0 1 = cc in omega arith
-
-fields-not-done : (w : Walk FieldOf) → NotDone (judgeFields w)
-unfolding judgeFields
-fields-not-done (whole fs) =
-    cond-both NotDone (some? wrongValue fs) _ _ (refuses WrongValue (λ e. let z : _≡_ {A = ℕ} 0 1 = cc in omega arith))
-    (cond-both NotDone (some? emptyStart fs) _ _ (refuses EmptyStart (λ e. let z : _≡_ {A = ℕ} 0 1 = cc in omega arith)) (takes fs))
-fields-not-done (broken p) = refuses WrongField (λ e. let z : _≡_ {A = ℕ} 0 1 = cc in omega arith)
-
-figs-not-done : (w : Walk Fig) → NotDone (judgeFigs w)
-unfolding judgeFigs
-figs-not-done (whole gs) = fields-not-done (allFields gs)
-figs-not-done (broken p) = refuses WrongFig (λ e. let z : _≡_ {A = ℕ} 0 1 = cc in omega arith)
-
-verdict-not-done : (fib : List ℕ) → NotDone (verdict fib)
-unfolding verdict
-verdict-not-done fib =
-    cond-both NotDone (eqb (length fib) 32) _ _
-    (cond-both NotDone (checkHolds fib) _ _ (figs-not-done (figs fib)) (refuses CheckFails (λ e. let z : _≡_ {A = ℕ} 0 1 = cc in omega arith)))
-    none
-
-pub refused-not-done : (fib : List ℕ) (o : Outcome) → verdict fib ≡ refused o → o ≡ Done → ⊥
-unfolding NotDone
-refused-not-done fib o = verdict-not-done fib o

@@ -1,10 +1,11 @@
 -- What judging a block answers: where the fields of a taken block stand in it, in order, or the outcome that refuses it; and
 -- what is read again at a spot.
-use Prim.Native.Nat.{ℕ, _+_, _-_}
+use Prim.Native.Nat.{ℕ, _+_}
 use mathlib.Core.Bool.{cond}
-use mathlib.Core.List.{List, [], _∷_, _++_, map}
+use mathlib.Core.List.{List, [], _∷_, map}
 use lib.ListN.{length, replicate}
 use Rattle.rules.specs.declared.Outcome.the-variants.{Done, NotABlock}
+use Rattle.rules.specs.Arrays.{padded}
 use Rattle.rules.specs.Block.{Step, item, end, wrong, Walk, whole, broken, walk, Fig, figAt}
 use Rattle.rules.specs.Field.{Field as FieldOf, isLinking, fieldAt}
 use Rattle.rules.specs.Outcomes.{Verdict, taken, refused, noBlock, joined, verdict}
@@ -106,7 +107,7 @@ noSpots = record { spots = replicate 14 noSpot; count = 0 }
 
 -- spots as they are stored: in order, and nothing in the places after them
 unfoldable pub storeSpots : List Spot → Spots
-storeSpots ss = record { spots = ss ++ replicate (14 - length ss) noSpot; count = length ss }
+storeSpots ss = record { spots = padded 14 noSpot ss; count = length ss }
 
 -- the answer that says a verdict: done, and where the fields stand; or the outcome that refuses, and none
 unfoldable pub judgedAs : Verdict → List Located → Judged

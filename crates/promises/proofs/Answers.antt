@@ -18,7 +18,7 @@ use Rattle.rules.specs.Collecting.{linkage, IdSet, Held, Content, meets}
 use Rattle.rules.specs.Outcomes as Outcomes
 use Rattle.rules.specs.Outcomes.{numberOf, taken, verdict, leftOver, heldOr, forgetOutcome, copySet, copyHeld, copyOut, notCopied}
 use Rattle.rules.proofs.Basics.{cases-bool, cases-option, none-some, or-cases, or-false-left, or-false-right}
-use Rattle.rules.proofs.LinkageLaws.{cases-verdict, answer-taken, answer-refused, no-block, notes-fields, Refusal, full-refusal}
+use Rattle.rules.proofs.LinkageLaws.{cases-verdict, answer-taken, answer-refused, no-block, notes-fields, Refusal, full-refusal, refused-full}
 use Rattle.rules.proofs.TableRules.{table-rules}
 use Rattle.lists.specs.Stored.{emptyList}
 use Rattle.table.specs.declared.Table.{Table}
@@ -78,8 +78,8 @@ read-block-answers t fib r (stored c f p a) =
     (λ o e.
     let q = a ∙ ap runAs (answer-refused c fib o e) in
     let n = ap (λ (x : Answer). numberOf (x .outcome)) q in
-    let b = subst Refusal e (full-refusal fib (eqb-true _ _ l)) in
-    refusedBlock (c, f, p) (eqb-true _ _ l) (subst (λ (m : ℕ). 2 ≤ m) (sym n) (b .0)) (subst (λ (m : ℕ). m ≤ 6) (sym n) (b .1))
+    let b = refused-full fib o e in
+    refusedBlock (c, f, p) (b .0) (subst (λ (m : ℕ). 2 ≤ m) (sym n) (b .1)) (subst (λ (m : ℕ). m ≤ 6) (sym n) (b .2))
     (ap (λ (x : Answer). x .notes) q ∙ sym no-notes) (dropped t (r .table) c f p (ap (λ (x : Answer). x .table) q)))
     (λ e. absurd (subst Refusal e (full-refusal fib (eqb-true _ _ l)))))
     (λ l.

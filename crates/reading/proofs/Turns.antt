@@ -14,8 +14,7 @@ use Rattle.rules.specs.Arrays.{padded}
 use Rattle.rules.specs.declared.Outcome.{Outcome}
 use Rattle.rules.specs.declared.Outcome.the-variants.{Done, NotABlock, CheckFails, WrongFig, WrongField, WrongValue, EmptyStart, NotHeld, ShortBuffer, WrongTable, NotASheet, NotShown}
 use Rattle.rules.specs.Outcomes.{verdict, noBlock}
-use Rattle.rules.proofs.LinkageLaws.{Refusal, full-refusal}
-use Rattle.block.proofs.Verdicts.{refused-not-done}
+use Rattle.rules.proofs.LinkageLaws.{Refusal, full-refusal, refused-not-done}
 use Rattle.rules.specs.declared.Note.{Note}
 use Rattle.rules.specs.declared.Note.the-variants.{Opened, Full, UnknownKey}
 use Rattle.rules.specs.Field.{Field as FieldOf, keyOf}

@@ -9,7 +9,7 @@ use mathlib.Core.Option.{Option, none, some}
 use lib.ListN.{length, getD, take, drop, length-append, length-drop, length-map}
 use lib.Seq.{take-append-le, drop-append-le}
 use lib.Dec.{ltb, eqb}
-use borrow.Author.Tests.{ltb-true, eqb-true, eqb-false, lt-ltb, eq-eqb, ne-eqb}
+use borrow.Author.Tests.{ltb-true, eqb-true, lt-ltb, eq-eqb, ne-eqb}
 use Rattle.rules.specs.declared.Outcome.{Outcome}
 use Rattle.rules.specs.declared.Outcome.the-variants.{Done, NotABlock}
 use Rattle.rules.specs.Block.{Walk, whole, broken, Fig, figs, checkHolds}
@@ -333,6 +333,23 @@ unfolding verdict numberOf
 full-refusal fib l =
     rw (eq-eqb (length fib) 32 l) (cond-both Refusal (checkHolds fib) _ _ (figs-refusal (figs fib)) (omega arith, omega arith))
 
+-- so what is refused is a block of full length
+pub refused-full : (fib : List ℕ) (o : Outcome) → verdict fib ≡ refused o → (length fib ≡ 32) × (2 ≤ numberOf o) × (numberOf o ≤ 6)
+refused-full fib o e =
+    cases-bool (eqb (length fib) 32)
+    (λ l.
+    let full = eqb-true (length fib) 32 l in
+    let b = subst Refusal e (full-refusal fib full) in
+    (full, b .0, b .1))
+    (λ l.
+    let none : verdict fib ≡ noBlock = unfold verdict in rw l in
+    let z : _≡_ {A = ℕ} 0 1 = cc in
+    absurd (omega arith))
+
+pub refused-not-done : (fib : List ℕ) (o : Outcome) → verdict fib ≡ refused o → o ≡ Done → ⊥
+unfolding numberOf
+refused-not-done fib o e d = omega (arith, ap numberOf d, refused-full fib o e .1)
+
 -- a block of full length that is not taken drops the open lists and does nothing else
 pub record Refused (t : Content) (a : Answer) : Type 0 where
   pub notes : a .notes ≡ []
@@ -354,13 +371,10 @@ no-block t fib h = answer-none t fib (unfold verdict in rw (ne-eqb (length fib) 
 pub outcome-low : (t : Content) (fib : List ℕ) → numberOf (readBlock t fib .outcome) ≤ 6
 unfolding numberOf
 outcome-low t fib =
-    cases-bool (eqb (length fib) 32)
-    (λ l. cases-verdict (verdict fib)
+    cases-verdict (verdict fib)
     (λ fs e. subst (λ (a : Answer). numberOf (a .outcome) ≤ 6) (sym (answer-taken t fib fs e)) (omega arith))
-    (λ o e. subst (λ (a : Answer). numberOf (a .outcome) ≤ 6) (sym (answer-refused t fib o e))
-    (subst Refusal e (full-refusal fib (eqb-true (length fib) 32 l)) .1))
-    (λ e. subst (λ (a : Answer). numberOf (a .outcome) ≤ 6) (sym (answer-none t fib e)) (omega arith)))
-    (λ l. subst (λ (a : Answer). numberOf (a .outcome) ≤ 6) (sym (no-block t fib (eqb-false (length fib) 32 l))) (omega arith))
+    (λ o e. subst (λ (a : Answer). numberOf (a .outcome) ≤ 6) (sym (answer-refused t fib o e)) (refused-full fib o e .2))
+    (λ e. subst (λ (a : Answer). numberOf (a .outcome) ≤ 6) (sym (answer-none t fib e)) (omega arith))
 
 -- ---- recordings
 
