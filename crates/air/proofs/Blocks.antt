@@ -1,5 +1,5 @@
--- A piece as a block (document 01, Writing for air). In order: the bytes of its identifiers; its FIG byte by byte; the block that
--- is made in an array of zeros.
+-- A piece as a block (document 01, Writing for air). In order: eight bits to a byte; its FIG byte by byte; the block that is made
+-- in an array of zeros.
 use Prim.Native.Nat.{ℕ, zero, suc, _+_, _-_, _*_, _/_, _%_, _^_, _≤_}
 use native.Mathlib.Nat.{le-of-suc-le-suc, mul-suc, pow-suc}
 use native.Mathlib.Omega.{arith}

@@ -1,4 +1,4 @@
--- The whole output (document 01, Writing for air). In order: the blocks of pieces one after another, and their length; the blocks
+-- The whole output (document 01, Writing for air). In order: the blocks of pieces one after another; the blocks
 -- of a table's sets from a place on; that those of a stored table are what its content shows; the answer.
 use Prim.Native.Nat.{ℕ, _+_, _-_, _*_, _/_, _%_, _<_, _≤_, min}
 use native.Mathlib.Omega.{arith}

@@ -1,6 +1,6 @@
--- The register of the block check, in this order: its length stays; data bits that are added to its top at once, and then
--- as many moves with data bit 0, leave what the data bits leave that enter one by one; the same with numbers for
--- registers, and one move as the code makes it; the bytes of a list, and the check from the register. Assumes nothing.
+-- The register of the block check, in this order: data bits that are added to its top at once, and then as many moves with data
+-- bit 0, leave what the data bits leave that enter one by one; the same with numbers for registers, and one move as the code
+-- makes it; the bytes of a list, and the check from the register. Assumes nothing.
 use Prim.Native.Nat.{ℕ, suc, _+_, _*_, _/_, _%_, _<_, _≤_}
 use mathlib.Core.Path.{_≡_, refl, sym, ap, ap₂, _∙_}
 use mathlib.Core.Bool.{Bool, true, false, not, cond, xor}
@@ -15,8 +15,6 @@ use lib.Bits.{bitXor, xor-shr, xor-lt}
 use Rattle.rules.specs.Block.{bits, number, generator, shift, shifts, register}
 use Rattle.rules.proofs.AirBlock.{shift-length}
 use Rattle.crc.proofs.Bits.{length-bits, bits-xor, bits-up, bits-up-by, number-bits, complement}
-
--- ---- its length
 
 -- ---- data bits added to the top
 

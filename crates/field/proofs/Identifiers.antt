@@ -1,4 +1,4 @@
--- Identifiers on plain lists, in this order: how many numbers are read and which stands at an index; how many pairs a field
+-- Identifiers on plain lists, in this order: which number stands at an index; how many pairs a field
 -- has and which stands at an index; the pair that an identifier of a kind is.
 use Prim.Native.Nat.{ℕ, zero, suc, _*_, _<_}
 use native.Mathlib.Omega.{arith}

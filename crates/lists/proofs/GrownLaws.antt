@@ -7,7 +7,7 @@ use mathlib.Core.Bool.{Bool, true, false, cond}
 use mathlib.Core.List.{List, [], _∷_, _++_}
 use mathlib.Core.Option.{Option, none, some}
 use lib.ListN.{length, drop, replicate, length-append}
-use lib.Dec.{ltb, leb, eqb}
+use lib.Dec.{ltb, leb}
 use borrow.Author.Tests.{lt-ltb, le-ltb, le-leb, lt-leb, ltb-true, ltb-false}
 use Rattle.rules.specs.Arrays.{padded}
 use Rattle.rules.specs.Field.{Pair, pair, namedBy, pairsOf}
@@ -16,7 +16,7 @@ use Rattle.rules.specs.Collecting.{linkage, IdSet, joinNames, brings}
 use Rattle.rules.specs.Outcomes.{numberIn, kindIn}
 use Rattle.rules.proofs.FamilyLaws.{addedAll-grows, length-addedAll, added-new}
 use Rattle.rules.proofs.Basics.{cases-bool}
-use Rattle.rules.proofs.TableRules.{lawful}
+use Rattle.rules.proofs.TableRules.{lawful, join-zero}
 use Rattle.rules.proofs.Arrays.{set-column}
 use Rattle.field.specs.declared.Field.{Field}
 use Rattle.field.specs.declared.Identifier.{Identifier}
@@ -132,14 +132,9 @@ field-pairs body f r q = pairs-from body f r q 0 (f .count) (omega arith) ∙ pa
 
 -- ---- a field added to a stored list, and to none
 
--- a new list names what its own qualifier names
-join-none : (k : ℕ) → joinNames 0 (namedBy k) ≡ namedBy k
-unfolding joinNames namedBy
-join-none k = cases-bool (eqb k 1) (λ e. rw e) (λ e. rw e (cases-bool (eqb k 3) (λ g. rw g) (λ g. rw g)))
-
 none-named : (k : ℕ) → renamed emptyList (joinNames (emptyList .named) (namedBy k)) ≡ storeList (record { items = []; named = namedBy k })
 unfolding renamed emptyList storeList padded
-none-named k = ap (λ (n : ℕ). record { numbers = replicate 128 0; kinds = replicate 128 0; len = 0; named = n }) (join-none k)
+none-named k = ap (λ (n : ℕ). record { numbers = replicate 128 0; kinds = replicate 128 0; len = 0; named = n }) (join-zero (namedBy k))
 
 module _ (body : List ℕ) (f : Field) (r : InBody body f) (q : f .qualifier ≡ 2 → ⊥) where
   -- a continuation: the list extended, or dropped where it would be too long

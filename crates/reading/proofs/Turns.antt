@@ -341,9 +341,6 @@ module _ (bytes : List ℕ) (t₀ t : Table) (notes : Notes) (o : Outcome) (spot
   pub place-short : (p k : ℕ) → (ltb p (t .count) && eqb (getD (t .keys) p 0) k) ≡ true → p < 32
   place-short p k b = omega (arith, table-short, ltb-true p (t .count) (and-left (ltb p (t .count)) _ b))
 
-  pub spots-few : spots .count ≤ 14
-  spots-few = omega (arith, G .placed .count, G .placed .few)
-
 -- an outcome that is done is 0
 done-is : (o : Outcome) → isDone o ≡ true → o ≡ Done
 unfolding isDone

@@ -1,6 +1,6 @@
 -- Cutting a set for air (document 01, Writing for air). In order: what pairs a piece stands for, and that the pieces of a set
 -- stand for its pairs in order; which pieces are starts; that every piece is within the limits; how many pieces there are;
--- which kinds the pieces name together; and the same for a set that meets the table rules.
+-- which kinds the pieces name together; and how many a set needs that meets the table rules.
 use Prim.Native.Nat.{ℕ, suc, _+_, _-_, _*_, _/_, _%_, _^_, _≤_, _<_, max}
 use native.Mathlib.Omega.{arith}
 use mathlib.Core.Path.{_≡_, refl, sym, ap, _∙_}
@@ -14,7 +14,7 @@ use Rattle.rules.specs.Field.{Pair, pair, startPairs, namedBy, dab, rds,
 use Rattle.rules.specs.Collecting.{IdSet, joinNames, kindNamed, pairsMeet, firstIsDab, setMeets, keyWidth}
 use Rattle.rules.specs.Air.{Piece, goesOn, pieceWith, completed, chop, cut, hasKind, deadLink, pieces, pieceMost}
 use Rattle.rules.proofs.Basics.{cases-bool, and-left, and-right, and-both, or-cases, or-false-left, or-false-right, true-false, bit-small, Every, every-append, map-append}
-use Rattle.rules.proofs.TableRules.{dab-named, pair-rules, set-rules}
+use Rattle.rules.proofs.TableRules.{dab-named, pair-rules, set-rules, kind-cases, join-mod, join-div, names-eq, join-assoc, join-again, join-zero, join-to-zero}
 
 -- ---- the pairs
 
@@ -295,14 +295,7 @@ dead-absent k false ps e = refl
 
 -- a kind that is there, and neither RDS nor DRM
 kind-dab : (named k : ℕ) → kindNamed named k ≡ true → eqb k rds ≡ false → eqb k drm ≡ false → k ≡ 0
-unfolding kindNamed
-kind-dab named k h r d =
-    or-cases (eqb k dab || (eqb k rds && eqb (named % 2) 1)) (eqb k drm && eqb (named / 2) 1) h
-    (λ e.
-    or-cases (eqb k dab) (eqb k rds && eqb (named % 2) 1) e
-    (λ z. eqb-true k dab z)
-    (λ z. true-false (and-left (eqb k rds) (eqb (named % 2) 1) z) r))
-    (λ z. true-false (and-left (eqb k drm) (eqb (named / 2) 1) z) d)
+kind-dab named k h r d = kind-cases named k h (λ e. e) (λ e g. true-false (eq-eqb k rds e) r) (λ e g. true-false (eq-eqb k drm e) d)
 
 first-dab : (w named : ℕ) (p : Pair) (ps : List Pair) → pairsMeet w named (p ∷ ps) ≡ true → hasKind rds (p ∷ ps) ≡ false
     → hasKind drm (p ∷ ps) ≡ false → p .kind ≡ 0
@@ -354,33 +347,6 @@ pieces-count w most l m n h =
     (λ g. let z : length a ≤ suc (length ps - 3) = cut-dab w (l .named) most ps m h e g in omega arith))
 
 -- ---- the names
-
-join-mod : (a b : ℕ) → joinNames a b % 2 ≡ max (a % 2) (b % 2)
-unfolding joinNames
-join-mod a b = omega arith
-
-join-div : (a b : ℕ) → joinNames a b / 2 ≡ max (a / 2) (b / 2)
-unfolding joinNames
-join-div a b = omega arith
-
--- names are equal if both their bits are
-names-eq : (a b : ℕ) → a % 2 ≡ b % 2 → a / 2 ≡ b / 2 → a ≡ b
-names-eq a b e f = omega arith
-
-pub join-assoc : (a b c : ℕ) → joinNames (joinNames a b) c ≡ joinNames a (joinNames b c)
-join-assoc a b c =
-    names-eq (joinNames (joinNames a b) c) (joinNames a (joinNames b c))
-    (simp join-mod (omega arith)) (simp join-div (omega arith))
-
-join-again : (a b : ℕ) → joinNames a (joinNames a b) ≡ joinNames a b
-join-again a b =
-    names-eq (joinNames a (joinNames a b)) (joinNames a b) (simp join-mod (omega arith)) (simp join-div (omega arith))
-
-join-zero : (a : ℕ) → joinNames 0 a ≡ a
-join-zero a = names-eq (joinNames 0 a) a (simp join-mod (omega arith)) (simp join-div (omega arith))
-
-pub join-to-zero : (a : ℕ) → joinNames a 0 ≡ a
-join-to-zero a = names-eq (joinNames a 0) a (simp join-mod (omega arith)) (simp join-div (omega arith))
 
 -- the kinds that pairs have, and those that pieces name, as names
 unfoldable pub kindsNamed : List Pair → ℕ

@@ -18,8 +18,8 @@ use Rattle.rules.specs.Collecting.{linkage, joinNames, IdSet, Held, Cont
 use Rattle.rules.specs.Outcomes.{verdict, taken, answerTo, readBlock, readBlocks, readRecording, leftOver}
 use Rattle.rules.specs.Air.{Piece, pieceMost, pieces, figBytes, blockOf, blocksOf, setBlocks, allBlocks, air}
 use Rattle.rules.proofs.Basics.{cases-bool, cases-option, and-left, and-right, Every, every-append, every-imp}
-use Rattle.rules.proofs.TableRules.{kind-small, names-small, names-none, differ-left, added-all, SetRules, set-rules, entry-rules, table-rules, shown-few}
-use Rattle.rules.proofs.AirPieces.{Below, piecePairs, flat, flat-pieces, IsMore, Shape, pieces-shape, PieceMeets, pieces-meet, most-room, set-count, join-assoc, join-to-zero, piecesNamed, pieces-named}
+use Rattle.rules.proofs.TableRules.{kind-small, names-small, names-none, differ-left, added-all, SetRules, set-rules, entry-rules, table-rules, shown-few, join-assoc, join-to-zero}
+use Rattle.rules.proofs.AirPieces.{Below, piecePairs, flat, flat-pieces, IsMore, Shape, pieces-shape, PieceMeets, pieces-meet, most-room, set-count, piecesNamed, pieces-named}
 use Rattle.rules.proofs.AirBlock.{fieldOf, block-length, verdict-back, piece-bytes}
 
 -- ---- what a piece's field says

@@ -1,9 +1,9 @@
 -- The laws of collecting for linkage sets. In this order: names of two lists together; a field of a taken block brings lists that
 -- meet the table rules; so reading blocks of bytes and forgetting keep them; refused blocks; outcomes; recordings.
-use Prim.Native.Nat.{ℕ, zero, suc, _+_, _*_, _/_, _%_, _^_, _≤_, _<_, max}
+use Prim.Native.Nat.{ℕ, zero, suc, _+_, _*_, _/_, _%_, _^_, _≤_, _<_}
 use native.Mathlib.Omega.{arith}
-use mathlib.Core.Path.{_≡_, refl, sym, _∙_, ap, subst}
-use mathlib.Core.Bool.{Bool, true, false, cond, _&&_, _||_}
+use mathlib.Core.Path.{_≡_, refl, sym, _∙_, ap, ap₂, subst}
+use mathlib.Core.Bool.{Bool, true, false, cond}
 use mathlib.Core.List.{List, [], _∷_, _++_, map}
 use mathlib.Core.Option.{Option, none, some}
 use lib.ListN.{length, getD, take, drop, length-append, length-drop, length-map}
@@ -13,13 +13,13 @@ use borrow.Author.Tests.{ltb-true, eqb-true, lt-ltb, eq-eqb, ne-eqb}
 use Rattle.rules.specs.declared.Outcome.{Outcome}
 use Rattle.rules.specs.declared.Outcome.the-variants.{Done, NotABlock}
 use Rattle.rules.specs.Block.{Walk, whole, broken, Fig, figs, checkHolds}
-use Rattle.rules.specs.Field.{Field, keyOf, Pair, pair, pairsOf, startPairs, firstKind, namedBy, hasList, isContinuation, width, dab, rds, drm, wrongValue, emptyStart}
+use Rattle.rules.specs.Field.{Field, keyOf, Pair, pair, pairsOf, startPairs, firstKind, namedBy, hasList, isContinuation, width, rds, drm, wrongValue, emptyStart}
 use Rattle.rules.specs.Family.{start, continuation, noList, addedAll, opening, extended, entryWith, steps, closed, dropOpen, forget}
 use Rattle.rules.specs.Collecting.{joinNames, linkage, IdSet, Held, Content, brings, actOf, said, keyWidth, firstIsDab, kindNamed, namesMeet, meets, Shown, showing, shownSets}
 use Rattle.rules.specs.Outcomes.{numberOf, Verdict, taken, refused, noBlock, judgeFields, judgeFigs, verdict, Answer, answerTo, readBlock, readBlocks, readRecording, leftOver, allFields, some?}
-use Rattle.rules.proofs.Basics.{cases-bool, true-false, and-left, and-right, and-both, or-left, or-right, or-cases, cond-cases, cond-both, Every, every-imp, every-both, every-map, every-from, every-take, every-drop}
+use Rattle.rules.proofs.Basics.{cases-bool, true-false, cond-cases, cond-both, Every, every-imp, every-both, every-map, every-from, every-take, every-drop}
 use Rattle.rules.proofs.FamilyLaws.{Keeps, Lists, Brings, keeps-key, every-steps, every-forget, every-drop-open, room-steps, length-drop-open, length-forget, ascends-steps, ascends-drop-open, ascends-forget, different-addedAll, addedAll-first, opening-first, length-addedAll, every-addedAll, lists-steps, lists-closed, steps-notes}
-use Rattle.rules.proofs.TableRules.{lawful, dab-named, names-small, PairMeets, SetMeets, KeyMeets, EntryMeets, Meets, table-meets}
+use Rattle.rules.proofs.TableRules.{lawful, dab-named, names-small, PairMeets, SetMeets, KeyMeets, EntryMeets, Meets, table-meets, join-mod, join-div, join-zero, kind-cases}
 use Rattle.rules.proofs.Taken.{Bytes, FieldBits, GoodField, taken-good, taken-few}
 
 -- ---- names of two lists together
@@ -28,38 +28,17 @@ pub join-below : (a b : ℕ) → a < 4 → b < 4 → joinNames a b < 4
 unfolding joinNames
 join-below a b p q = omega arith
 
-pub join-none : (a b : ℕ) → a ≡ 0 → b ≡ 0 → joinNames a b ≡ 0
-unfolding joinNames
-join-none a b p q = omega arith
-
-pub join-low : (a b : ℕ) → a < 4 → b < 4 → joinNames a b % 2 ≡ max (a % 2) (b % 2)
-unfolding joinNames
-join-low a b p q = omega arith
-
-pub join-high : (a b : ℕ) → a < 4 → b < 4 → joinNames a b / 2 ≡ max (a / 2) (b / 2)
-unfolding joinNames
-join-high a b p q = omega arith
-
 -- a kind that one of them names
 pub named-through : (a c k : ℕ) → (a % 2 ≡ 1 → c % 2 ≡ 1) → (a / 2 ≡ 1 → c / 2 ≡ 1) → kindNamed a k ≡ true → kindNamed c k ≡ true
 unfolding kindNamed
 named-through a c k low high h =
-    or-cases (eqb k dab || (eqb k rds && eqb (a % 2) 1)) (eqb k drm && eqb (a / 2) 1) h
-    (λ l. or-cases (eqb k dab) (eqb k rds && eqb (a % 2) 1) l
-    (λ z. or-left (eqb k dab || (eqb k rds && eqb (c % 2) 1)) (eqb k drm && eqb (c / 2) 1) (or-left (eqb k dab) (eqb k rds && eqb (c % 2) 1) z))
-    (λ r. or-left (eqb k dab || (eqb k rds && eqb (c % 2) 1)) (eqb k drm && eqb (c / 2) 1)
-    (or-right (eqb k dab) (eqb k rds && eqb (c % 2) 1)
-    (and-both (eqb k rds) (eqb (c % 2) 1) (and-left (eqb k rds) (eqb (a % 2) 1) r)
-    (eq-eqb (c % 2) 1 (low (eqb-true (a % 2) 1 (and-right (eqb k rds) (eqb (a % 2) 1) r))))))))
-    (λ d. or-right (eqb k dab || (eqb k rds && eqb (c % 2) 1)) (eqb k drm && eqb (c / 2) 1)
-    (and-both (eqb k drm) (eqb (c / 2) 1) (and-left (eqb k drm) (eqb (a / 2) 1) d)
-    (eq-eqb (c / 2) 1 (high (eqb-true (a / 2) 1 (and-right (eqb k drm) (eqb (a / 2) 1) d))))))
+    kind-cases a k h (λ z. rw z refl) (λ z m. rw (z, eq-eqb (c % 2) 1 (low m))) (λ z m. rw (z, eq-eqb (c / 2) 1 (high m)))
 
 pub named-left : (a b k : ℕ) → a < 4 → b < 4 → kindNamed a k ≡ true → kindNamed (joinNames a b) k ≡ true
-named-left a b k p q = named-through a (joinNames a b) k (λ h. omega (arith, join-low a b p q)) (λ h. omega (arith, join-high a b p q))
+named-left a b k p q = named-through a (joinNames a b) k (λ h. omega (arith, join-mod a b)) (λ h. omega (arith, join-div a b))
 
 pub named-right : (a b k : ℕ) → a < 4 → b < 4 → kindNamed b k ≡ true → kindNamed (joinNames a b) k ≡ true
-named-right a b k p q = named-through b (joinNames a b) k (λ h. omega (arith, join-low a b p q)) (λ h. omega (arith, join-high a b p q))
+named-right a b k p q = named-through b (joinNames a b) k (λ h. omega (arith, join-mod a b)) (λ h. omega (arith, join-div a b))
 
 -- a kind is among those that it names itself
 pub own-named : (q : ℕ) → q < 4 → (q ≡ 2 → ⊥) → kindNamed (namedBy q) q ≡ true
@@ -81,7 +60,7 @@ pub names-join : (k a b : ℕ) → namesMeet k a ≡ true → namesMeet k b ≡ 
 unfolding namesMeet
 names-join k a b =
     cases-bool (eqb (k / 16384 % 2) 1)
-    (λ d. rw d (λ p q. eq-eqb (joinNames a b) 0 (join-none a b (eqb-true a 0 p) (eqb-true b 0 q))))
+    (λ d. rw d (λ p q. eq-eqb (joinNames a b) 0 (ap₂ joinNames (eqb-true a 0 p) (eqb-true b 0 q) ∙ join-zero 0)))
     (λ d. rw d (λ p q. lt-ltb (joinNames a b) 4 (join-below a b (ltb-true a 4 p) (ltb-true b 4 q))))
 
 pub names-field : (k q : ℕ) → (k / 16384 % 2 ≡ 1 → q ≡ 0) → namesMeet k (namedBy q) ≡ true

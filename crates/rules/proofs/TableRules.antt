@@ -1,7 +1,7 @@
 -- The table rules (document 01, Collecting) taken apart and put together again. In this order: the tests of linkage are lawful;
--- what the rules bound, kinds, names and widths; pairs that differ; then each rule in its parts, of a pair, a set, an entry and
--- a table, as the tests say them and as what they mean; how many sets a table shows.
-use Prim.Native.Nat.{ℕ, _/_, _%_, _^_, _≤_, _<_}
+-- what the rules bound, kinds, names and widths; names of two lists together; pairs that differ; then each rule in its parts, of
+-- a pair, a set, an entry and a table, as the tests say them and as what they mean; how many sets a table shows.
+use Prim.Native.Nat.{ℕ, _/_, _%_, _^_, _≤_, _<_, max}
 use native.Mathlib.Nat.{pow-le-pow-right}
 use native.Mathlib.Omega.{arith}
 use mathlib.Core.Path.{_≡_, refl}
@@ -14,7 +14,7 @@ use lib.Dec.{leb, ltb, eqb}
 use borrow.Author.Tests.{ltb-true, ltb-false, leb-true, eqb-true, eqb-false, lt-ltb, le-leb, eq-eqb, ne-eqb}
 use Rattle.rules.specs.Field.{Pair, width, dab, rds, drm}
 use Rattle.rules.specs.Family.{member, addedAll}
-use Rattle.rules.specs.Collecting.{samePair, linkage, IdSet, Held, Content, keyWidth, allDiffer, firstIsDab, kindNamed, pairsMeet, namesMeet, setMeets, ifThere, entryMeets, ascends, entriesMeet, meets, showing, shownSets}
+use Rattle.rules.specs.Collecting.{samePair, joinNames, linkage, IdSet, Held, Content, keyWidth, allDiffer, firstIsDab, kindNamed, pairsMeet, namesMeet, setMeets, ifThere, entryMeets, ascends, entriesMeet, meets, showing, shownSets}
 use Rattle.rules.specs.Demand3.{heldKeys}
 use Rattle.rules.proofs.Basics.{cases-bool, cases-option, and-left, and-right, and-both, and-three, and-four, and-five, or-cases, not-true, true-not, cond-both, eqb-self, ltb-self, ltb-trans, ltb-or, Every, every-imp, Within}
 use Rattle.rules.proofs.FamilyLaws.{Lawful, After, Ascends, Different, keys-every, Lists, after-through, different-first, different-left, addedAll-new}
@@ -87,6 +87,35 @@ width-most k =
 
 pub within-width : (w n : ℕ) → w ≤ 4 → n < 256 ^ w → n < 2 ^ 32
 within-width w n h l = omega (arith, pow-le-pow-right {n = 256} (omega arith) {i = w} {j = 4} h)
+
+-- ---- names of two lists together
+
+pub join-mod : (a b : ℕ) → joinNames a b % 2 ≡ max (a % 2) (b % 2)
+unfolding joinNames
+join-mod a b = omega arith
+
+pub join-div : (a b : ℕ) → joinNames a b / 2 ≡ max (a / 2) (b / 2)
+unfolding joinNames
+join-div a b = omega arith
+
+-- names are equal if both their bits are
+pub names-eq : (a b : ℕ) → a % 2 ≡ b % 2 → a / 2 ≡ b / 2 → a ≡ b
+names-eq a b e f = omega arith
+
+pub join-assoc : (a b c : ℕ) → joinNames (joinNames a b) c ≡ joinNames a (joinNames b c)
+join-assoc a b c =
+    names-eq (joinNames (joinNames a b) c) (joinNames a (joinNames b c))
+    (simp join-mod (omega arith)) (simp join-div (omega arith))
+
+pub join-again : (a b : ℕ) → joinNames a (joinNames a b) ≡ joinNames a b
+join-again a b =
+    names-eq (joinNames a (joinNames a b)) (joinNames a b) (simp join-mod (omega arith)) (simp join-div (omega arith))
+
+pub join-zero : (a : ℕ) → joinNames 0 a ≡ a
+join-zero a = names-eq (joinNames 0 a) a (simp join-mod (omega arith)) (simp join-div (omega arith))
+
+pub join-to-zero : (a : ℕ) → joinNames a 0 ≡ a
+join-to-zero a = names-eq (joinNames a 0) a (simp join-mod (omega arith)) (simp join-div (omega arith))
 
 -- ---- pairs that differ
 

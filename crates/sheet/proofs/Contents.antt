@@ -1,4 +1,4 @@
--- One stored form stores one content. In order: what an array stores; a list; entries; a table (`store-injective`).
+-- One stored form stores one content. In order: a list; entries; a table (`store-injective`).
 use Prim.Native.Nat.{ℕ, _-_}
 use native.Mathlib.Omega.{arith}
 use mathlib.Core.Path.{_≡_, refl, sym, ap, ap₂, _∙_}

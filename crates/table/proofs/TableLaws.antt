@@ -1,4 +1,4 @@
--- Laws of the stored form of a table. In order: arrays and their values by place (padded, tabulate); what is read off a stored
+-- Laws of the stored form of a table. In order: arrays and their values by place; what is read off a stored
 -- table (`TableFacts`, `stored-facts`); that these facts are enough (`facts-stored`).
 use Prim.Native.Nat.{ℕ, zero, suc, _+_, _-_, _%_, _<_, _≤_, suc-le-suc}
 use native.Mathlib.Nat.{le-of-suc-le-suc, not-suc-le-zero}
