@@ -1,9 +1,9 @@
-"""The FIGs of blocks: type and length of each, for any bytes. The check is not looked at.
+"""The FIGs of blocks: type and length of each, for any bytes, and whether a block's check fails.
 
 Document 01, The block.
 """
 
-from second.block import BLOCK_SIZE, DATA_SIZE, END_OF_FIGS
+from second.block import BLOCK_SIZE, DATA_SIZE, END_OF_FIGS, check_passes
 
 
 def fig_lines(data):
@@ -21,7 +21,8 @@ def fig_lines(data):
 def figs_text(recording):
     lines = []
     for number in range(len(recording) // BLOCK_SIZE):
-        lines.append("block %d" % number)
-        lines += fig_lines(recording[number * BLOCK_SIZE:number * BLOCK_SIZE + DATA_SIZE])
+        block = recording[number * BLOCK_SIZE:(number + 1) * BLOCK_SIZE]
+        lines.append("block %d" % number + ("" if check_passes(block) else " check fails"))
+        lines += fig_lines(block[:DATA_SIZE])
     rest = len(recording) % BLOCK_SIZE
     return "".join(line + "\n" for line in lines + (["rest %d" % rest] if rest else []))

@@ -1,7 +1,8 @@
-// Lists the FIGs of blocks: standard input is read as blocks of 32 bytes. Each block has a line with its number, from 0,
-// and then a line for each FIG, with its type and the length of its body; where the walk finds a wrong FIG it says so and
-// stops. Bytes left over at the end are counted in a last line. The check of a block is not looked at: this only walks.
-// The walk is proved in crates reader and figs; here it is proved that every call is in order and that every loop ends.
+// Lists the FIGs of blocks: standard input is read as blocks of 32 bytes. Each block has a line with its number, from 0, and
+// with a word where its check fails, and then a line for each FIG, with its type and the length of its body; where the walk
+// finds a wrong FIG it says so and stops. Bytes left over at the end are counted in a last line. A block with a failing check
+// is walked all the same. The walk is proved in crates reader and figs, the check in crc; here it is proved that every call is
+// in order and that every loop ends.
 use figs::FigStep;
 use libc::STDIN_FILENO;
 use libc::STDOUT_FILENO;
@@ -22,6 +23,19 @@ fn print_number(word: &[u8], number: usize) {
     let b = out::put_decimal(&mut line, a, number);
     let c = out::put(&mut line, b, b'\n');
     emit(&line, c);
+}
+
+// The line of a block, which says so where its check fails.
+fn print_block(number: usize, holds: bool) {
+    let mut line = [0u8; 32];
+    let a = out::put_bytes(&mut line, 0, b"block ");
+    let b = out::put_decimal(&mut line, a, number);
+    emit(&line, b);
+    if holds {
+        io::write_all(STDOUT_FILENO, b"\n");
+    } else {
+        io::write_all(STDOUT_FILENO, b" check fails\n");
+    }
 }
 
 // The line of a FIG.
@@ -80,7 +94,7 @@ fn list_next(left: usize) -> usize
     let mut fib = [0u8; 32];
     let n = io::read_full(STDIN_FILENO, &mut fib);
     if n == 32 {
-        print_number(b"block ", usize::MAX - left);
+        print_block(usize::MAX - left, crc::check_holds(&fib));
         list_block(&fib);
         return left - 1;
     }
