@@ -6,7 +6,7 @@ use rules::Outcome;
 ghost use mathlib.Core.Path.{_≡_};
 ghost use mathlib.Core.List.{[], _∷_};
 ghost use Prim.Native.Nat.{_≤_, _<_, _/_, _%_, _^_, min};
-ghost use lib.ListN.{length};
+ghost use lib.ListN.{length, take};
 ghost use Rattle.rules.specs.Listing.{hexDigit, hexText, decimal};
 ghost use Rattle.out.specs.Put.{Puts};
 
@@ -46,6 +46,17 @@ pub fn put_bytes(out: &mut [u8], at: usize, bytes: &[u8]) -> usize
         i += 1;
     }
     p
+}
+
+// What stands at the front of a buffer: its first n bytes, or all where there are fewer.
+pub fn front(bytes: &[u8], n: usize) -> &[u8]
+    ensures { λ r. ⌜ now r ≡ take n (now (bytes .entry)) ⌝ }
+{
+    if n <= bytes.len() {
+        &bytes[..n]
+    } else {
+        bytes
+    }
 }
 
 // ---- numbers

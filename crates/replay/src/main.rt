@@ -16,13 +16,14 @@ use out::put_bytes;
 use table::Table;
 
 // Where the input stands: the place in the chunk, how much of the chunk was read, the length of the
-// line so far, whether that is the whole line, and whether the input is over.
+// line so far, whether that is the whole line, whether the input is over, and whether reading it failed.
 struct Place {
     at: usize,
     got: usize,
     len: usize,
     whole: bool,
     over: bool,
+    failed: bool,
 }
 
 // The table, the remembered one, whether any was remembered, and whether the run is over.
@@ -74,19 +75,33 @@ fn gather(line: &mut [u8], len: usize, chunk: &[u8], from: usize, to: usize) -> 
     }
 }
 
-// What is left of a chunk: from a place on, up to the end of what was read.
+// What is left of a chunk: from a place on, up to the end of what was read; and whether reading it failed.
 struct Rest {
     at: usize,
     got: usize,
+    failed: bool,
 }
 
-// The same rest where there is one, or the next chunk; nothing is left where the input is over.
+// The same rest where there is one, or the next chunk; nothing is left where the input is over. A read that fails is said on
+// standard error.
 fn refill(chunk: &mut [u8], at: usize, got: usize) -> Rest {
     if at < got {
-        return Rest { at, got };
+        return Rest {
+            at,
+            got,
+            failed: false,
+        };
     }
-    let more = io::count(libc::read(STDIN_FILENO, chunk), chunk);
-    Rest { at: 0, got: more }
+    let answer = libc::read(STDIN_FILENO, chunk);
+    if answer < 0 {
+        os::fail(b"replay: cannot read standard input");
+    }
+    let more = io::count(answer, chunk);
+    Rest {
+        at: 0,
+        got: more,
+        failed: answer < 0,
+    }
 }
 
 // Gathers what the chunk, or the next one, has of a line: of a new one, after a whole line.
@@ -103,6 +118,7 @@ fn next_piece(chunk: &mut [u8], line: &mut [u8], place: Place) -> Place {
             len,
             whole: true,
             over,
+            failed: rest.failed,
         }
     } else {
         Place {
@@ -111,16 +127,18 @@ fn next_piece(chunk: &mut [u8], line: &mut [u8], place: Place) -> Place {
             len,
             whole: over,
             over,
+            failed: rest.failed,
         }
     }
 }
 
-// Writes this much of the answer, and answers whether that was done.
+// Writes this much of the answer, and answers whether that was done. A write that fails is said on standard error.
 fn write_out(out: &[u8], size: usize) -> bool {
-    if out.len() < size {
-        return false;
+    if io::write_all(STDOUT_FILENO, out::front(out, size)) {
+        return true;
     }
-    io::write_all(STDOUT_FILENO, &out[0..size])
+    os::fail(b"replay: cannot write to standard output");
+    false
 }
 
 // Answers a line that is whole. The run is over with the input, or where the answer cannot be written.
@@ -134,7 +152,7 @@ fn answer_whole(state: State, line: &[u8], place: Place, out: &mut [u8]) -> Stat
     state_after(state, step, place.over || !written)
 }
 
-// Answers line after line. A proved loop has to end, and nothing says that the input does: so it counts
+// Answers line after line; a line that a failed read cut short has no answer. A proved loop has to end, and nothing says that the input does: so it counts
 // its turns down, from a number that no run uses up.
 fn run(chunk: &mut [u8], line: &mut [u8], out: &mut [u8]) {
     let empty = Table::empty();
@@ -150,11 +168,15 @@ fn run(chunk: &mut [u8], line: &mut [u8], out: &mut [u8]) {
         len: 0,
         whole: false,
         over: false,
+        failed: false,
     };
     let mut turns = u64::MAX;
     while turns > 0 {
         turns -= 1;
         place = next_piece(chunk, line, place);
+        if place.failed {
+            return;
+        }
         state = answer_whole(state, line, place, out);
         if state.over {
             return;

@@ -4,9 +4,14 @@ use lib.ListN.{length}
 use borrow.Author.Needs.{needs}
 use Rattle.replay.proofs.run.Statement.{statement}
 use Rattle.replay.proofs.run.Tie as tie
+use Rattle.replay.proofs.run.Reads as reads
+use Rattle.replay.proofs.run.Lts as lts
+use Rattle.replay.proofs.answer_whole.Reads as answer-whole-reads
+use Rattle.replay.proofs.next_piece.Reads as next-piece-reads
+use Rattle.table.proofs.Table.empty.Reads as empty-reads
 
 abbrev Inv-loop : tie.InvT-loop
-Inv-loop chunk₀ line₀ out₀ state₀ place₀ turns₀ chunk line out state place turns =
+Inv-loop chunk₀ line₀ out₀ state₀ place₀ turns₀ chunk line out state place turns = 
     (length chunk ≡ length chunk₀) × (length line ≡ length line₀) × (length out ≡ length out₀)
 
 abbrev μ-loop : tie.MeasureT-loop
@@ -24,9 +29,6 @@ sub-turns c = search needs
 next-piece-requires : tie.Need-next-piece-requires Inv-loop μ-loop
 next-piece-requires c κs = search needs
 
-answer-whole-requires : tie.Need-answer-whole-requires Inv-loop μ-loop
-answer-whole-requires c κs = search needs
-
 same-length : tie.Need-same-length Inv-loop μ-loop
 same-length c = search needs
 
@@ -39,11 +41,8 @@ same-length-3 c = search needs
 returns : tie.Need-returns Inv-loop μ-loop
 returns c = search needs
 
-loop-less : tie.Need-loop-less Inv-loop μ-loop
-loop-less c = search needs
-
-loop-again : tie.Need-loop-again Inv-loop μ-loop
-loop-again c = search needs
+answer-whole-requires : tie.Need-answer-whole-requires Inv-loop μ-loop
+answer-whole-requires c κs = search needs
 
 same-length-4 : tie.Need-same-length-4 Inv-loop μ-loop
 same-length-4 c = search needs
@@ -57,6 +56,24 @@ same-length-6 c = search needs
 returns-2 : tie.Need-returns-2 Inv-loop μ-loop
 returns-2 c = search needs
 
+loop-less : tie.Need-loop-less Inv-loop μ-loop
+loop-less c = search needs
+
+loop-again : tie.Need-loop-again Inv-loop μ-loop
+loop-again c = search needs
+
+same-length-7 : tie.Need-same-length-7 Inv-loop μ-loop
+same-length-7 c = search needs
+
+same-length-8 : tie.Need-same-length-8 Inv-loop μ-loop
+same-length-8 c = search needs
+
+same-length-9 : tie.Need-same-length-9 Inv-loop μ-loop
+same-length-9 c = search needs
+
+returns-3 : tie.Need-returns-3 Inv-loop μ-loop
+returns-3 c = search needs
+
 pub run-spec : {M : Type 1} → statement M
 run-spec =
     tie.close
@@ -67,14 +84,18 @@ run-spec =
     loop-holds
     sub-turns
     next-piece-requires
-    answer-whole-requires
     same-length
     same-length-2
     same-length-3
     returns
-    loop-less
-    loop-again
+    answer-whole-requires
     same-length-4
     same-length-5
     same-length-6
-    returns-2)
+    returns-2
+    loop-less
+    loop-again
+    same-length-7
+    same-length-8
+    same-length-9
+    returns-3)

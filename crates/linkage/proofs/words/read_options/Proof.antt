@@ -1,0 +1,60 @@
+-- `words::read_options` ends: the arguments that are left fall.
+use Prim.Native.Nat.{_-_}
+use borrow.Author.Needs.{needs}
+use Rattle.linkage.proofs.words.read_options.Statement.{statement}
+use Rattle.linkage.proofs.words.read_options.Tie as tie
+use Rattle.linkage.proofs.words.read_options.Reads as reads
+use Rattle.linkage.proofs.words.read_options.Lts as lts
+use Rattle.linkage.proofs.words.Options.ended.Reads as ended-reads
+use Rattle.linkage.proofs.words.Options.none.Reads as none-reads
+use Rattle.linkage.proofs.words.Options.with_argument.Reads as with-argument-reads
+use Rattle.os.proofs.arg_count.Reads as arg-count-reads
+
+abbrev Inv-loop : tie.InvT-loop
+Inv-loop count options₀ i₀ options i = Unit {0}
+
+abbrev μ-loop : tie.MeasureT-loop
+μ-loop count options₀ i₀ options i = count - i
+
+arg-count-requires : tie.Need-arg-count-requires Inv-loop μ-loop
+arg-count-requires c κs = search needs
+
+none-requires : tie.Need-none-requires Inv-loop μ-loop
+none-requires c κs = search needs
+
+loop-holds : tie.Need-loop-holds Inv-loop μ-loop
+loop-holds c = search needs
+
+with-argument-requires : tie.Need-with-argument-requires Inv-loop μ-loop
+with-argument-requires c κs = search needs
+
+add-i : tie.Need-add-i Inv-loop μ-loop
+add-i c = search needs
+
+loop-less : tie.Need-loop-less Inv-loop μ-loop
+loop-less c = search needs
+
+loop-again : tie.Need-loop-again Inv-loop μ-loop
+loop-again c = search needs
+
+ended-requires : tie.Need-ended-requires Inv-loop μ-loop
+ended-requires c κs = search needs
+
+returns : tie.Need-returns Inv-loop μ-loop
+returns c = search needs
+
+pub read-options-spec : {M : Type 1} → statement M
+read-options-spec =
+    tie.close
+    (tie.spec
+    Inv-loop
+    μ-loop
+    arg-count-requires
+    none-requires
+    loop-holds
+    with-argument-requires
+    add-i
+    loop-less
+    loop-again
+    ended-requires
+    returns)

@@ -1,0 +1,102 @@
+-- `outputs::write_output` meets its contract: each arm is the function that writes what it was asked for.
+use borrow.Author.Needs.{needs}
+use Rattle.sheet.specs.Writing.{notWritten}
+use Rattle.outputs.specs.Output.{outputOf}
+use Rattle.outputs.proofs.write_output.Statement.{statement}
+use Rattle.outputs.proofs.write_output.Tie as tie
+use Rattle.outputs.proofs.write_output.Reads as reads
+use Rattle.outputs.proofs.write_output.Lts as lts
+use Rattle.air.proofs.write_air.Reads as write-air-reads
+use Rattle.columns.proofs.write_columns.Reads as write-columns-reads
+use Rattle.sheet.proofs.write_sheet.Reads as write-sheet-reads
+use Rattle.text.proofs.write_listing.Reads as write-listing-reads
+
+enum-told : tie.Need-enum-told
+enum-told c = search needs
+
+write-listing-requires : tie.Need-write-listing-requires
+write-listing-requires c κs = search needs
+
+enum-told-2 : tie.Need-enum-told-2
+enum-told-2 c = search needs
+
+write-columns-requires : tie.Need-write-columns-requires
+write-columns-requires c κs = search needs
+
+enum-told-3 : tie.Need-enum-told-3
+enum-told-3 c = search needs
+
+write-columns-requires-2 : tie.Need-write-columns-requires-2
+write-columns-requires-2 c κs = search needs
+
+enum-told-4 : tie.Need-enum-told-4
+enum-told-4 c = search needs
+
+write-sheet-requires : tie.Need-write-sheet-requires
+write-sheet-requires c κs = search needs
+
+enum-told-5 : tie.Need-enum-told-5
+enum-told-5 c = search needs
+
+write-air-requires : tie.Need-write-air-requires
+write-air-requires c κs = search needs
+
+same-length : tie.Need-same-length
+same-length c = search needs
+
+returns : tie.Need-returns
+unfolding outputOf
+returns c = rw (c .before .before .before .before .enum-told .given .1) (c .before .before .write-listing .ensures)
+
+same-length-2 : tie.Need-same-length-2
+same-length-2 c = search needs
+
+returns-2 : tie.Need-returns-2
+unfolding outputOf
+returns-2 c = rw (c .before .before .before .before .enum-told2 .given .1) (c .before .before .write-columns .ensures)
+
+same-length-3 : tie.Need-same-length-3
+same-length-3 c = search needs
+
+returns-3 : tie.Need-returns-3
+unfolding outputOf
+returns-3 c = rw (c .before .before .before .before .enum-told3 .given .1) (c .before .before .write-columns2 .ensures)
+
+same-length-4 : tie.Need-same-length-4
+same-length-4 c = search needs
+
+returns-4 : tie.Need-returns-4
+unfolding outputOf notWritten
+returns-4 c = rw (c .before .before .before .before .enum-told4 .given .1) (c .before .before .write-sheet .ensures)
+
+same-length-5 : tie.Need-same-length-5
+same-length-5 c = search needs
+
+returns-5 : tie.Need-returns-5
+unfolding outputOf
+returns-5 c = rw (c .before .before .before .before .enum-told5 .given .1) (c .before .before .write-air .ensures)
+
+pub write-output-spec : {M : Type 1} → statement M
+write-output-spec =
+    tie.close
+    (tie.spec
+    enum-told
+    write-listing-requires
+    enum-told-2
+    write-columns-requires
+    enum-told-3
+    write-columns-requires-2
+    enum-told-4
+    write-sheet-requires
+    enum-told-5
+    write-air-requires
+    same-length
+    returns
+    same-length-2
+    returns-2
+    same-length-3
+    returns-3
+    same-length-4
+    returns-4
+    same-length-5
+    returns-5)

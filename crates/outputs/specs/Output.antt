@@ -1,0 +1,19 @@
+-- What is asked for, as bytes.
+use Prim.Native.Nat.{ℕ}
+use mathlib.Core.Bool.{true, false}
+use mathlib.Core.List.{List}
+use Rattle.rules.specs.Collecting.{Content}
+use Rattle.rules.specs.Listing.{listing}
+use Rattle.rules.specs.Sheet.{sheet}
+use Rattle.rules.specs.Air.{air}
+use Rattle.columns.specs.Columns.{columns}
+use Rattle.outputs.specs.declared.Output.{Output}
+use Rattle.outputs.specs.declared.Output.the-variants.{Lines, Columns, Spreadsheet, Sheet, Blocks}
+
+-- of a table that holds this, after a recording that left so many bytes over
+unfoldable pub outputOf : Output → ℕ → Content → List ℕ
+outputOf Lines over c = listing c over
+outputOf Columns over c = columns false c
+outputOf Spreadsheet over c = columns true c
+outputOf Sheet over c = sheet c
+outputOf Blocks over c = air c
