@@ -3,8 +3,8 @@
     python3 tests/check_statements.py
 
 Its table of public functions has a row for every `pub fn` of the libraries; each names at least two wrong programs whose edits change code
-and one whose edit changes a definition, or says why there is none; and every edit that there is stands in that table or in
-the one of document 01's wrong programs. Every old text of an edit stands exactly once where it says, and every statement that is copied
+and one whose edit changes a definition, or says why there is none; and every edit that there is stands in that table, in
+the one of document 01's wrong programs or in that of the command. Every old text of an edit stands exactly once where it says, and every statement that is copied
 stands so in the source. Exit status 1 otherwise.
 """
 
@@ -15,11 +15,10 @@ from pathlib import Path
 sys.dont_write_bytecode = True
 
 ROOT = Path(__file__).resolve().parent.parent
-OUTSIDE = {"console"}  # what a program reads and writes has no statement: docs/DECISIONS.md
 
 
 def libraries():
-    return sorted(path.parent.parent for path in ROOT.glob("crates/*/src/lib.rt") if path.parent.parent.name not in OUTSIDE)
+    return sorted(path.parent.parent for path in ROOT.glob("crates/*/src/lib.rt"))
 
 
 def public_functions():
@@ -87,11 +86,11 @@ def main():
             good = [key for key in names if key in known and kind in known[key][0]]
             if len(good) < least and not cell.startswith("none: "):
                 wrong.append("%s: %s names %d edits of %s" % (crate, name, len(good), kind))
-    for _, where in rows(text, "Wrong programs that document 01 lists"):
+    for _, where in rows(text, "Wrong programs that document 01 lists") + rows(text, "The command"):
         used.update(named(where, ""))
     wrong += ["%s: %s: not listed" % key for key in public_functions() if key not in listed]
     wrong += ["%s: %s: listed, and not there" % key for key in listed if key not in set(public_functions())]
-    wrong += ["%s: %s: an edit that STATEMENTS.md does not name" % key for key in known if key not in used and key[0] not in OUTSIDE]
+    wrong += ["%s: %s: an edit that STATEMENTS.md does not name" % key for key in known if key not in used]
     copied = list(quotes(text))
     wrong += ["%s: not there as copied: %s" % (path, part.splitlines()[0]) for path, part in copied if part not in (ROOT / path).read_text()]
     for line in wrong:

@@ -44,7 +44,7 @@ pub fn fill(input: i32, buffer: &mut [u8]) -> Filled
 // ---- a recording
 
 // Whether the check of some whole block among these bytes holds.
-fn some_holds(bytes: &[u8]) -> bool
+pub fn some_holds(bytes: &[u8]) -> bool
     ensures { λ r. ⌜ r ≡ goodIn (now (bytes .entry)) ⌝ }
 {
     let mut at: usize = 0;
@@ -138,7 +138,10 @@ fn tell_progress(size: usize, whole: usize, more: bool) {
         return;
     }
     if !more {
-        io::write_all(STDERR_FILENO, b"\r                                                            \r");
+        io::write_all(
+            STDERR_FILENO,
+            b"\r                                                            \r",
+        );
         return;
     }
     if size % 1048576 != 0 {

@@ -19,20 +19,20 @@ use Rattle.outputs.specs.declared.Output.{Output}
 use Rattle.outputs.specs.Output.{outputOf}
 use Rattle.input.specs.declared.Received.{Received}
 use Rattle.input.specs.Reading.{Reading}
-use Rattle.promises.proofs.Contracts.{Outputs}
-use Rattle.promises.proofs.Writing.{write-answers}
+use Rattle.promises.proofs.Contracts.{WritesOutput}
+use Rattle.promises.proofs.Writing.{write-output-answers}
 use Rattle.promises.proofs.Buffers.{write-bytes}
 use Rattle.linkage.specs.Made.{Made, ofRecording, ofSheet}
 
 module _ (asked : Output) (over : ℕ) (t : Table) (old : List ℕ) (w : Written) (new : List ℕ) where
-  written-of : Outputs (outputOf asked over) t old w new → w .outcome ≡ Done → (c : Content) → meets c ≡ true → t ≡ storeTable c
+  written-of : WritesOutput asked t over old w new → w .outcome ≡ Done → (c : Content) → meets c ≡ true → t ≡ storeTable c
       → take (w .size) new ≡ outputOf asked over c
   unfolding numberOf
-  written-of h o = write-bytes (outputOf asked over) t old w new (write-answers (outputOf asked over) t old w new h) (ap numberOf o)
+  written-of h o = write-bytes (outputOf asked over) t old w new (write-output-answers asked t over old w new h) (ap numberOf o)
 
 -- a recording
 pub recorded-made : (asked : Output) (r : Received) (old : List ℕ) (w : Written) (new made : List ℕ) → Reading r
-    → Outputs (outputOf asked (r .rest)) (r .table) old w new → w .outcome ≡ Done → made ≡ take (w .size) new → Made asked made
+    → WritesOutput asked (r .table) (r .rest) old w new → w .outcome ≡ Done → made ≡ take (w .size) new → Made asked made
 recorded-made asked r old w new made a h o e =
     ofRecording (a .bytes)
     (e ∙ written-of asked (r .rest) (r .table) old w new h o (readRecording [] (a .bytes)) (recording-keeps [] (a .bytes) (a .each) meets-nil) (a .table)
@@ -40,6 +40,6 @@ recorded-made asked r old w new made a h o e =
 
 -- a sheet
 pub loaded-made : (asked : Output) (bytes : List ℕ) (l : Loaded) (old : List ℕ) (w : Written) (new made : List ℕ) → Loads bytes l → l .outcome ≡ Done
-    → Outputs (outputOf asked 0) (l .table) old w new → w .outcome ≡ Done → made ≡ take (w .size) new → Made asked made
+    → WritesOutput asked (l .table) 0 old w new → w .outcome ≡ Done → made ≡ take (w .size) new → Made asked made
 loaded-made asked bytes l old w new made a d h o e =
     ofSheet bytes (a .left) (rw d at (a .load)) (e ∙ written-of asked 0 (l .table) old w new h o (a .left) (load-meets (a .load)) (a .stored))

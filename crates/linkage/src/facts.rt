@@ -68,6 +68,7 @@ fn picked(answer: i32, said: stat) -> Facts {
 impl Facts {
     // The kinds of file that are told apart, as the system numbers them.
     const FOLDER: u32 = 4;
+
     const REGULAR: u32 = 8;
 
     // A file that keeps what is written to it, as a device or a pipe does not.
@@ -81,7 +82,10 @@ impl Facts {
 
     // Two descriptors of one regular file, under whatever names.
     pub(crate) fn is_same_file(self, other: Facts) -> bool {
-        self.is_regular() && other.is_regular() && self.device == other.device && self.number == other.number
+        self.is_regular()
+            && other.is_regular()
+            && self.device == other.device
+            && self.number == other.number
     }
 }
 

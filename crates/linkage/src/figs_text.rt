@@ -5,6 +5,7 @@ ghost use Prim.Native.Nat.{_+_, _<_, _≤_};
 ghost use lib.ListN.{length};
 use figs::Cursor;
 use figs::FigStep;
+use input::some_holds;
 use libc::STDOUT_FILENO;
 use out::front;
 use out::put;
@@ -123,17 +124,18 @@ fn write_chunk(number: usize, chunk: &[u8]) -> bool
     write_rest(chunk.len() - at)
 }
 
-// What came of listing: how many bytes were read, whether the last read failed, whether all was written, and whether the input may
-// go on.
+// What came of listing: how many bytes were read, whether the check of some block held, whether the last read failed, whether
+// all was written, and whether the input may go on.
 pub(crate) struct Listed {
     pub size: usize,
+    pub good: bool,
     pub failed: bool,
     pub written: bool,
     pub more: bool,
 }
 
 // The next chunk, listed.
-fn list_chunk(input: i32, size: usize) -> Listed
+fn list_chunk(input: i32, size: usize, good: bool) -> Listed
     requires { ⌜ size + 32768 ≤ 9223372036854775808 ⌝ }
     ensures { λ r. ⌜ r .size ≤ size + 32768 ⌝ }
 {
@@ -143,6 +145,7 @@ fn list_chunk(input: i32, size: usize) -> Listed
     let written = write_chunk(size / 32, &chunk[..n]);
     Listed {
         size: size + n,
+        good: good || some_holds(&chunk[..n]),
         failed: filled.failed,
         written,
         more: written && n == 32768,
@@ -154,13 +157,14 @@ fn list_chunk(input: i32, size: usize) -> Listed
 pub(crate) fn list_figs(input: i32) -> Listed {
     let mut listed = Listed {
         size: 0,
+        good: false,
         failed: false,
         written: true,
         more: true,
     };
     let mut turns: usize = 281474976710656;
     while listed.more && 0 < turns {
-        listed = list_chunk(input, listed.size);
+        listed = list_chunk(input, listed.size, listed.good);
         turns -= 1;
     }
     if listed.more {

@@ -54,7 +54,14 @@ fn asked_for(action: Action, options: Options) -> Output {
 }
 
 // Carries an action out on an open input.
-fn carry_out(action: Action, options: Options, source: Source, name: &[u8], target: Target, path: &[u8]) -> bool {
+fn carry_out(
+    action: Action,
+    options: Options,
+    source: Source,
+    name: &[u8],
+    target: Target,
+    path: &[u8],
+) -> bool {
     let asked = asked_for(action, options);
     match action {
         Action::Figs => use_figs(source, name),
@@ -126,7 +133,12 @@ fn perform(action: Action, options: Options) -> bool {
         return false;
     }
     let mut path = io::buffer();
-    let target = target::aim(front(&output, to.size), to.standard, options.force, &mut path);
+    let target = target::aim(
+        front(&output, to.size),
+        to.standard,
+        options.force,
+        &mut path,
+    );
     if !target.good {
         return false;
     }

@@ -37,52 +37,20 @@ pub(crate) fn say_failed(words: &[u8], name: &[u8]) {
 
 // The text of `help`, to an open file; whether all of it was written.
 pub(crate) fn write_help(file: i32) -> bool {
-    let mut text = [0u8; 2048];
-    let a = put_bytes(
-        &mut text,
-        0,
-        b"linkage list [RECORDING] [--table | --csv]   the linkage sets of a recording\n",
-    );
-    let b = put_bytes(
-        &mut text,
-        a,
-        b"linkage sheet [RECORDING] -o SHEET [-f]      the stored sheet of a recording\n",
-    );
-    let c = put_bytes(
-        &mut text,
-        b,
-        b"linkage show [SHEET] [--table | --csv]       the linkage sets of a sheet\n",
-    );
-    let d = put_bytes(
-        &mut text,
-        c,
-        b"linkage air [SHEET] -o BLOCKS [-f]           a sheet as blocks for air\n",
-    );
-    let e = put_bytes(
-        &mut text,
-        d,
-        b"linkage figs [RECORDING]                     types and lengths of the FIGs of each block, and where a check fails\n",
-    );
-    let f = put_bytes(
-        &mut text,
-        e,
-        b"linkage help | --version                     this text; the version\n\n",
-    );
-    let g = put_bytes(
-        &mut text,
-        f,
-        b"A file that is left out, or '-', is standard input; '-o -' is standard output. -f overwrites an existing file.\n",
-    );
-    let h = put_bytes(
-        &mut text,
-        g,
-        b"--table prints columns for eyes, --csv the same for a spreadsheet: DAB services, FM (RDS) codes, DRM or AMSS apart.\n",
-    );
-    let i = put_bytes(
-        &mut text,
-        h,
-        b"After '--' every word is a file's name. The status is 0 where all was done, and else 1.\n",
-    );
-    let j = put_bytes(&mut text, i, b"Example: linkage list examples/swiss-4001-regional.fib --table\n");
-    io::write_all(file, front(&text, j))
+    io::write_all(
+        file,
+        b"\
+linkage list [RECORDING] [--table | --csv]   the linkage sets of a recording
+linkage sheet [RECORDING] -o SHEET [-f]      the stored sheet of a recording
+linkage show [SHEET] [--table | --csv]       the linkage sets of a sheet
+linkage air [SHEET] -o BLOCKS [-f]           a sheet as blocks for air
+linkage figs [RECORDING]                     types and lengths of the FIGs of each block, and where a check fails
+linkage help | --version                     this text; the version
+
+A file that is left out, or '-', is standard input; '-o -' is standard output. -f overwrites an existing file.
+--table prints columns for eyes, --csv the same for a spreadsheet: DAB services, FM (RDS) codes, DRM or AMSS apart.
+After '--' every word is a file's name. The status is 0 where all was done, and else 1.
+Example: linkage list examples/swiss-4001-regional.fib --table
+",
+    )
 }

@@ -55,7 +55,11 @@ fn no_source() -> Source {
 // Standard input, unless it is a terminal.
 fn standard_input() -> Source {
     if libc::isatty(STDIN_FILENO) == 1 {
-        say(b"standard input is a terminal: give a file's name", b"", b"");
+        say(
+            b"standard input is a terminal: give a file's name",
+            b"",
+            b"",
+        );
         return no_source();
     }
     Source {
@@ -85,7 +89,11 @@ fn open_file(name: &[u8]) -> Source {
 
 // The input of this name. A folder is none.
 pub(crate) fn open_source(name: &[u8], standard: bool) -> Source {
-    let source = if standard { standard_input() } else { open_file(name) };
+    let source = if standard {
+        standard_input()
+    } else {
+        open_file(name)
+    };
     let facts = source.facts;
     if facts.is_folder() {
         say(b"a folder, not a file: ", name, b"");

@@ -96,6 +96,10 @@ pub(crate) fn aim(name: &[u8], standard: bool, force: bool, path: &mut [u8]) -> 
     if standard {
         return directly(name, STDOUT_FILENO, path);
     }
+    if name.len() == 0 {
+        say(b"-o wants a file's name", b"", b"");
+        return nowhere();
+    }
     let fd = os::open_append(name);
     if fd >= 0 {
         return onto(name, fd, force, path);
@@ -204,10 +208,10 @@ fn replace(path: &[u8], old: Facts, bytes: &[u8]) -> bool {
 
 // Writes to an open file and closes it.
 fn write_directly(name: &[u8], fd: i32, bytes: &[u8]) -> bool {
-    if io::write_all(fd, bytes) {
-        if libc::close(fd) == 0 {
-            return true;
-        }
+    let written = io::write_all(fd, bytes);
+    let closed = libc::close(fd) == 0;
+    if written && closed {
+        return true;
     }
     say_failed(b"cannot write to ", name);
     false

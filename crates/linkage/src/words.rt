@@ -31,11 +31,17 @@ pub(crate) struct Options {
 }
 
 const NO_FAULT: u8 = 0;
+
 const NO_SUCH_OPTION: u8 = 1;
+
 const SECOND_INPUT: u8 = 2;
+
 const SECOND_OUTPUT: u8 = 3;
+
 const TOO_LONG: u8 = 4;
+
 const NO_OUTPUT_NAME: u8 = 5;
+
 const BOTH_FORMS: u8 = 6;
 
 // The action that a word names.
@@ -213,7 +219,11 @@ fn explain(fault: u8, word: &[u8]) {
     } else if fault == SECOND_OUTPUT {
         say(b"one output at a time: what is ", word, b" for?");
     } else if fault == TOO_LONG {
-        say(b"a word of the command is longer than a file's name can be", b"", b"");
+        say(
+            b"a word of the command is longer than a file's name can be",
+            b"",
+            b"",
+        );
     } else if fault == NO_OUTPUT_NAME {
         say(b"-o wants a file's name", b"", b"");
     } else {

@@ -31,7 +31,11 @@ fn expected(source: Source) -> usize {
 // Says that a read failed, after so many bytes.
 fn say_broken(name: &[u8], size: usize) {
     say_failed(b"cannot read ", name);
-    say_number(b"reading broke off after ", size, b" bytes: nothing was written");
+    say_number(
+        b"reading broke off after ",
+        size,
+        b" bytes: nothing was written",
+    );
 }
 
 // Says why nothing was written. Tables that were read meet the rules and buffers are long enough, so that nobody should see it.
@@ -53,29 +57,21 @@ fn remark_table(table: Table, blocks: usize) {
         );
     }
     if table.count == Table::KEYS {
-        say(b"the table holds 32 sets, as many as it can: others may have found no room", b"", b"");
+        say(
+            b"the table holds 32 sets, as many as it can: others may have found no room",
+            b"",
+            b"",
+        );
     }
 }
 
-// What is worth knowing of a recording beside what is listed.
-fn remark(received: Received) {
-    let blocks = received.size / 32;
-    if received.size == 0 {
-        say(b"the input is empty", b"", b"");
-        return;
-    }
-    if received.rest != 0 {
-        say_number(b"a rest of ", received.rest, b" bytes at the end is no block");
-    }
-    if blocks == 0 {
-        return;
-    }
-    if received.good {
-        let table = received.table;
-        remark_table(table, blocks);
-        return;
-    }
-    say_number(b"the check fails in every one of ", blocks, b" blocks: this is probably no recording, or one that begins inside a block");
+// Says that these blocks are probably no recording, and what one is.
+fn say_no_recording(blocks: usize) {
+    say_number(
+        b"the check fails in every one of ",
+        blocks,
+        b" blocks: this is probably no recording, or one that begins inside a block",
+    );
     say(
         b"a recording is blocks of 32 bytes, one after another, the last two bytes of each a check over the 30 before them",
         b"",
@@ -83,8 +79,35 @@ fn remark(received: Received) {
     );
 }
 
+// What is worth knowing of so many bytes that were read as blocks: none, or no block with a good check.
+fn remark_blocks(size: usize, good: bool) {
+    if size == 0 {
+        say(b"the input is empty", b"", b"");
+    } else if 32 <= size && !good {
+        say_no_recording(size / 32);
+    }
+}
+
+// What is worth knowing of a recording beside what is listed.
+fn remark(received: Received) {
+    if received.rest != 0 {
+        say_number(b"a rest of ", received.rest, b" bytes at the end is no block");
+    }
+    remark_blocks(received.size, received.good);
+    if received.good {
+        let table = received.table;
+        remark_table(table, received.size / 32);
+    }
+}
+
 // A recording: read, made into what is asked for, delivered, and remarked on.
-pub(crate) fn use_recording(asked: Output, source: Source, name: &[u8], target: Target, path: &[u8]) -> bool {
+pub(crate) fn use_recording(
+    asked: Output,
+    source: Source,
+    name: &[u8],
+    target: Target,
+    path: &[u8],
+) -> bool {
     let received = input::receive(source.fd, expected(source));
     if received.failed {
         say_broken(name, received.size);
@@ -106,7 +129,13 @@ pub(crate) fn use_recording(asked: Output, source: Source, name: &[u8], target: 
 }
 
 // A sheet: loaded, made into what is asked for, and delivered.
-pub(crate) fn use_sheet(asked: Output, source: Source, name: &[u8], target: Target, path: &[u8]) -> bool {
+pub(crate) fn use_sheet(
+    asked: Output,
+    source: Source,
+    name: &[u8],
+    target: Target,
+    path: &[u8],
+) -> bool {
     let fetched = input::receive_sheet(source.fd);
     if fetched.failed {
         say_broken(name, fetched.size);
@@ -144,8 +173,6 @@ pub(crate) fn use_figs(source: Source, name: &[u8]) -> bool {
         say_failed(b"cannot write to standard output", b"");
         return false;
     }
-    if listed.size == 0 {
-        say(b"the input is empty", b"", b"");
-    }
+    remark_blocks(listed.size, listed.good);
     true
 }

@@ -52,11 +52,7 @@ pub fn put_bytes(out: &mut [u8], at: usize, bytes: &[u8]) -> usize
 pub fn front(bytes: &[u8], n: usize) -> &[u8]
     ensures { λ r. ⌜ now r ≡ take n (now (bytes .entry)) ⌝ }
 {
-    if n <= bytes.len() {
-        &bytes[..n]
-    } else {
-        bytes
-    }
+    if n <= bytes.len() { &bytes[..n] } else { bytes }
 }
 
 // ---- numbers

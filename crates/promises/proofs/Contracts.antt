@@ -21,6 +21,8 @@ use Rattle.reading.specs.Runs.{runAs, refusedTable, recordedAs, unrecorded}
 use Rattle.out.specs.declared.Written.{Written}
 use Rattle.out.specs.Answer.{writtenAs}
 use Rattle.columns.specs.Columns.{columns}
+use Rattle.outputs.specs.declared.Output.{Output}
+use Rattle.outputs.specs.Output.{outputOf}
 
 abbrev pub ReadsBlock : Table → List ℕ → Answer → Type 0
 ReadsBlock t fib r = Given t (λ c. r ≡ runAs (readBlock c fib)) (r ≡ refusedTable t)
@@ -53,3 +55,7 @@ WritesSheet = Outputs sheet
 
 abbrev pub WritesAir : Table → List ℕ → Written → List ℕ → Type 0
 WritesAir = Outputs air
+
+-- by what is asked for, with the bytes left over
+abbrev pub WritesOutput : Output → Table → ℕ → List ℕ → Written → List ℕ → Type 0
+WritesOutput o t over = Outputs (outputOf o over) t

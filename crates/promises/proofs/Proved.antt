@@ -23,7 +23,8 @@ use Rattle.columns.proofs.write_columns as write-columns
 use Rattle.sheet.proofs.write_sheet as write-sheet
 use Rattle.air.proofs.write_air as write-air
 use Rattle.sheet.proofs.load_sheet as load-sheet
-use Rattle.promises.proofs.Contracts.{ReadsBlock, ReadsRecording, Forgets, CopiesOut, WritesListing, WritesColumns, WritesSheet, WritesAir}
+use Rattle.outputs.proofs.write_output as write-output
+use Rattle.promises.proofs.Contracts.{ReadsBlock, ReadsRecording, Forgets, CopiesOut, WritesListing, WritesColumns, WritesSheet, WritesAir, WritesOutput}
 
 -- this code, with nothing required of its caller, ends so that this holds of what it was passed, of what it returns and of its
 -- parameters at the end
@@ -69,6 +70,11 @@ write-sheet-proved = write-sheet.Met.met
 pub write-air-proved : {M : Type 1}
     → Promised write-air.ended write-air.Symbol.routine (λ κs a r z. WritesAir (a .0) (now (a .1 .0)) r (now (z .1 .0))) M
 write-air-proved = write-air.Met.met
+
+pub write-output-proved : {M : Type 1}
+    → Promised write-output.ended write-output.Symbol.routine
+    (λ κs a r z. WritesOutput (a .0) (a .1 .0) (a .1 .1 .0) (now (a .1 .1 .1 .0)) r (now (z .1 .1 .1 .0))) M
+write-output-proved = write-output.Met.met
 
 pub load-sheet-proved : {M : Type 1}
     → Promised load-sheet.ended load-sheet.Symbol.routine (λ κs a r z. Loads (now (a .0)) r) M

@@ -28,7 +28,9 @@ use Rattle.out.specs.Answer.{writtenAs}
 use Rattle.sheet.specs.declared.Loaded.{Loaded}
 use Rattle.sheet.specs.Loading.{Loads}
 use Rattle.columns.specs.Columns.{columns}
-use Rattle.promises.proofs.Contracts.{ReadsBlock, ReadsRecording, Forgets, CopiesOut, Outputs, WritesListing, WritesColumns, WritesSheet, WritesAir}
+use Rattle.outputs.specs.declared.Output.{Output}
+use Rattle.outputs.specs.Output.{outputOf}
+use Rattle.promises.proofs.Contracts.{ReadsBlock, ReadsRecording, Forgets, CopiesOut, Outputs, WritesListing, WritesColumns, WritesSheet, WritesAir, WritesOutput}
 use Rattle.promises.proofs.Injective.{same-content}
 
 -- a result that an equation says
@@ -96,6 +98,10 @@ write-sheet-single = write-single sheet
 pub write-air-single : (t : Table) (old : List ℕ) (r q : Written) (new other : List ℕ)
     → WritesAir t old r new → WritesAir t old q other → (r ≡ q) × (new ≡ other)
 write-air-single = write-single air
+
+pub write-output-single : (o : Output) (t : Table) (over : ℕ) (old : List ℕ) (r q : Written) (new other : List ℕ)
+    → WritesOutput o t over old r new → WritesOutput o t over old q other → (r ≡ q) × (new ≡ other)
+write-output-single o t over = write-single (outputOf o over) t
 
 pub load-sheet-single : (bytes : List ℕ) (r q : Loaded) → Loads bytes r → Loads bytes q → r ≡ q
 load-sheet-single bytes r q a b =

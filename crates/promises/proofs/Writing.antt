@@ -23,7 +23,9 @@ use Rattle.out.specs.Answer.{writtenAs}
 use Rattle.sheet.specs.declared.Loaded.{Loaded}
 use Rattle.sheet.specs.Loading.{Loads}
 use Rattle.columns.specs.Columns.{columns}
-use Rattle.promises.proofs.Contracts.{Outputs, WritesListing, WritesColumns, WritesSheet, WritesAir}
+use Rattle.outputs.specs.declared.Output.{Output}
+use Rattle.outputs.specs.Output.{outputOf}
+use Rattle.promises.proofs.Contracts.{Outputs, WritesListing, WritesColumns, WritesSheet, WritesAir, WritesOutput}
 
 module _ (F : Content → List ℕ) (t : Table) (old : List ℕ) (r : Written) (new : List ℕ) where
   pub data WriteAnswer : Type 0 where
@@ -61,6 +63,10 @@ write-sheet-answers = write-answers sheet
 
 pub write-air-answers : (t : Table) (old : List ℕ) (r : Written) (new : List ℕ) → WritesAir t old r new → WriteAnswer air t old r new
 write-air-answers = write-answers air
+
+pub write-output-answers : (o : Output) (t : Table) (over : ℕ) (old : List ℕ) (r : Written) (new : List ℕ)
+    → WritesOutput o t over old r new → WriteAnswer (outputOf o over) t old r new
+write-output-answers o t over = write-answers (outputOf o over) t
 
 pub data LoadAnswer (bytes : List ℕ) (r : Loaded) : Type 0 where
   -- 0: some table writes these bytes; what it shows is held

@@ -1,5 +1,5 @@
--- `input::receive` meets its contract: after every turn there are bytes of which the state is the reading, at most 32 KiB for each turn
--- done. The measure is the number of turns left.
+-- `input::receive` meets its contract: after every turn there are bytes of which the state is the reading, at most 32 KiB for each
+-- turn done. The measure is the number of turns left.
 use Prim.Native.Nat.{_*_, _-_, _≤_}
 use native.Mathlib.Omega.{arith}
 use borrow.Author.Tests.{ltb-true}

@@ -1,5 +1,5 @@
--- `input::some_holds` meets its contract: what the rest of the bytes says is what they all say, block by block. The measure is the rest's
--- length.
+-- `input::some_holds` meets its contract: block by block, what the rest of the bytes says is what they all say. The measure is the
+-- length of the rest.
 use Prim.Native.Nat.{_≤_, _-_}
 use native.Mathlib.Omega.{arith}
 use mathlib.Core.Path.{_≡_, refl}
@@ -44,9 +44,10 @@ loop-less : tie.Need-loop-less Inv-loop μ-loop
 loop-less c = search needs
 
 loop-again : tie.Need-loop-again Inv-loop μ-loop
-loop-again c =
-    (omega arith,
-    good-passed _ _ (c .before .before .before .before .loop .inv .1) _ (c .before .before .before .loop-test .taken) (c .before .check-holds .ensures) (c .if1 .left))
+loop-again c = (
+  omega arith,
+  good-passed _ _ (c .before .before .before .before .loop .inv .1) _ (c .before .before .before .loop-test .taken) (c .before .check-holds .ensures) (c .if1 .left),
+)
 
 returns-2 : tie.Need-returns-2 Inv-loop μ-loop
 returns-2 c = good-end _ _ (c .before .loop .inv .1) (c .loop-test .left)

@@ -4,12 +4,6 @@ use Rattle.sheet.specs.Writing.{notWritten}
 use Rattle.outputs.specs.Output.{outputOf}
 use Rattle.outputs.proofs.write_output.Statement.{statement}
 use Rattle.outputs.proofs.write_output.Tie as tie
-use Rattle.outputs.proofs.write_output.Reads as reads
-use Rattle.outputs.proofs.write_output.Lts as lts
-use Rattle.air.proofs.write_air.Reads as write-air-reads
-use Rattle.columns.proofs.write_columns.Reads as write-columns-reads
-use Rattle.sheet.proofs.write_sheet.Reads as write-sheet-reads
-use Rattle.text.proofs.write_listing.Reads as write-listing-reads
 
 enum-told : tie.Need-enum-told
 enum-told c = search needs

@@ -4,14 +4,9 @@ use lib.ListN.{length}
 use borrow.Author.Needs.{needs}
 use Rattle.replay.proofs.run.Statement.{statement}
 use Rattle.replay.proofs.run.Tie as tie
-use Rattle.replay.proofs.run.Reads as reads
-use Rattle.replay.proofs.run.Lts as lts
-use Rattle.replay.proofs.answer_whole.Reads as answer-whole-reads
-use Rattle.replay.proofs.next_piece.Reads as next-piece-reads
-use Rattle.table.proofs.Table.empty.Reads as empty-reads
 
 abbrev Inv-loop : tie.InvT-loop
-Inv-loop chunk₀ line₀ out₀ state₀ place₀ turns₀ chunk line out state place turns = 
+Inv-loop chunk₀ line₀ out₀ state₀ place₀ turns₀ chunk line out state place turns =
     (length chunk ≡ length chunk₀) × (length line ≡ length line₀) × (length out ≡ length out₀)
 
 abbrev μ-loop : tie.MeasureT-loop

@@ -5,9 +5,6 @@ use Prim.Native.Nat.{_≤_, _+_, _*_}
 use borrow.Author.Needs.{needs}
 use Rattle.linkage.proofs.figs_text.list_figs.Statement.{statement}
 use Rattle.linkage.proofs.figs_text.list_figs.Tie as tie
-use Rattle.linkage.proofs.figs_text.list_figs.Reads as reads
-use Rattle.linkage.proofs.figs_text.list_figs.Lts as lts
-use Rattle.linkage.proofs.figs_text.list_chunk.Reads as list-chunk-reads
 
 abbrev Inv-loop : tie.InvT-loop
 Inv-loop input listed₀ turns₀ listed turns = listed .size + 32768 * turns ≤ 9223372036854775808

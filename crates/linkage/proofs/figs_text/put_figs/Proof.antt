@@ -6,9 +6,6 @@ use lib.ListN.{length}
 use borrow.Author.Needs.{needs}
 use Rattle.linkage.proofs.figs_text.put_figs.Statement.{statement}
 use Rattle.linkage.proofs.figs_text.put_figs.Tie as tie
-use Rattle.linkage.proofs.figs_text.put_figs.Reads as reads
-use Rattle.linkage.proofs.figs_text.put_figs.Lts as lts
-use Rattle.linkage.proofs.figs_text.put_step.Reads as put-step-reads
 
 abbrev Inv-loop : tie.InvT-loop
 Inv-loop text₀ at fib put₀ left₀ text put left = length text ≡ length text₀

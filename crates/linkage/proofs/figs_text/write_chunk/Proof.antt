@@ -4,10 +4,6 @@ use lib.ListN.{length}
 use borrow.Author.Needs.{needs}
 use Rattle.linkage.proofs.figs_text.write_chunk.Statement.{statement}
 use Rattle.linkage.proofs.figs_text.write_chunk.Tie as tie
-use Rattle.linkage.proofs.figs_text.write_chunk.Reads as reads
-use Rattle.linkage.proofs.figs_text.write_chunk.Lts as lts
-use Rattle.linkage.proofs.figs_text.write_block.Reads as write-block-reads
-use Rattle.linkage.proofs.figs_text.write_rest.Reads as write-rest-reads
 
 abbrev Inv-loop : tie.InvT-loop
 Inv-loop number chunk at₀ at = at ≤ length chunk

@@ -4,8 +4,6 @@ use lib.ListN.{length}
 use borrow.Author.Needs.{needs}
 use Rattle.linkage.proofs.path.folder_size.Statement.{statement}
 use Rattle.linkage.proofs.path.folder_size.Tie as tie
-use Rattle.linkage.proofs.path.folder_size.Reads as reads
-use Rattle.linkage.proofs.path.folder_size.Lts as lts
 
 abbrev Inv-loop : tie.InvT-loop
 Inv-loop path n₀ n = n ≤ length path

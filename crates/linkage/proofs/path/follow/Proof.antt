@@ -5,9 +5,6 @@ use lib.ListN.{length}
 use borrow.Author.Needs.{needs}
 use Rattle.linkage.proofs.path.follow.Statement.{statement}
 use Rattle.linkage.proofs.path.follow.Tie as tie
-use Rattle.linkage.proofs.path.follow.Reads as reads
-use Rattle.linkage.proofs.path.follow.Lts as lts
-use Rattle.linkage.proofs.path.follow_once.Reads as follow-once-reads
 
 abbrev Inv-loop : tie.InvT-loop
 Inv-loop path₀ size now₀ turns₀ path now turns = (length path ≡ length path₀) × (turns ≤ 40)

@@ -3,12 +3,6 @@ use Prim.Native.Nat.{_-_}
 use borrow.Author.Needs.{needs}
 use Rattle.linkage.proofs.words.read_options.Statement.{statement}
 use Rattle.linkage.proofs.words.read_options.Tie as tie
-use Rattle.linkage.proofs.words.read_options.Reads as reads
-use Rattle.linkage.proofs.words.read_options.Lts as lts
-use Rattle.linkage.proofs.words.Options.ended.Reads as ended-reads
-use Rattle.linkage.proofs.words.Options.none.Reads as none-reads
-use Rattle.linkage.proofs.words.Options.with_argument.Reads as with-argument-reads
-use Rattle.os.proofs.arg_count.Reads as arg-count-reads
 
 abbrev Inv-loop : tie.InvT-loop
 Inv-loop count options₀ i₀ options i = Unit {0}

@@ -3,16 +3,6 @@ use Rattle.linkage.proofs.Laws.{recorded-made}
 use borrow.Author.Needs.{needs}
 use Rattle.linkage.proofs.work.use_recording.Statement.{statement}
 use Rattle.linkage.proofs.work.use_recording.Tie as tie
-use Rattle.linkage.proofs.work.use_recording.Reads as reads
-use Rattle.linkage.proofs.work.use_recording.Lts as lts
-use Rattle.input.proofs.receive.Reads as receive-reads
-use Rattle.linkage.proofs.target.deliver.Reads as deliver-reads
-use Rattle.linkage.proofs.work.expected.Reads as expected-reads
-use Rattle.linkage.proofs.work.remark.Reads as remark-reads
-use Rattle.linkage.proofs.work.say_broken.Reads as say-broken-reads
-use Rattle.linkage.proofs.work.say_unwritten.Reads as say-unwritten-reads
-use Rattle.out.proofs.front.Reads as front-reads
-use Rattle.outputs.proofs.write_output.Reads as write-output-reads
 
 expected-requires : tie.Need-expected-requires
 expected-requires c κs = search needs
@@ -49,7 +39,10 @@ front-requires c κs = search needs
 
 deliver-requires : tie.Need-deliver-requires
 deliver-requires c κs =
-    recorded-made _ (c .before .before .before .before .before .before .before .before .before .receive .result) _ (c .before .before .before .before .before .write-output .result) _ _ (c .before .before .before .before .before .before .before .before .before .receive .ensures) (c .before .before .before .before .before .write-output .ensures) (c .before .before .enum-told .given .1) (c .front .ensures)
+    let told = c .before .before in
+    let wrote = told .before .before .before in
+    let read = wrote .before .before .before .before in
+    recorded-made _ (read .receive .result) _ (wrote .write-output .result) _ _ (read .receive .ensures) (wrote .write-output .ensures) (told .enum-told .given .1) (c .front .ensures)
 
 returns-3 : tie.Need-returns-3
 returns-3 c = search needs

@@ -3,15 +3,6 @@ use Rattle.linkage.proofs.Laws.{loaded-made}
 use borrow.Author.Needs.{needs}
 use Rattle.linkage.proofs.work.use_sheet.Statement.{statement}
 use Rattle.linkage.proofs.work.use_sheet.Tie as tie
-use Rattle.linkage.proofs.work.use_sheet.Reads as reads
-use Rattle.linkage.proofs.work.use_sheet.Lts as lts
-use Rattle.input.proofs.receive_sheet.Reads as receive-sheet-reads
-use Rattle.linkage.proofs.say.say.Reads as say-reads
-use Rattle.linkage.proofs.target.deliver.Reads as deliver-reads
-use Rattle.linkage.proofs.work.say_broken.Reads as say-broken-reads
-use Rattle.linkage.proofs.work.say_unwritten.Reads as say-unwritten-reads
-use Rattle.out.proofs.front.Reads as front-reads
-use Rattle.outputs.proofs.write_output.Reads as write-output-reads
 
 receive-sheet-requires : tie.Need-receive-sheet-requires
 receive-sheet-requires c κs = search needs
@@ -63,7 +54,12 @@ front-requires c κs = search needs
 
 deliver-requires : tie.Need-deliver-requires
 deliver-requires c κs =
-    loaded-made _ (c .before .before .before .before .before .before .before .before .before .before .before .before .receive-sheet .ensures .bytes) (c .before .before .before .before .before .before .before .before .before .before .before .before .receive-sheet .result .loaded) _ (c .before .before .before .before .before .write-output .result) _ _ (c .before .before .before .before .before .before .before .before .before .before .before .before .receive-sheet .ensures .loads) (c .before .before .before .before .before .before .before .before .enum-told .given .1) (c .before .before .before .before .before .write-output .ensures) (c .before .before .enum-told2 .given .1) (c .front .ensures)
+    let told = c .before .before in
+    let wrote = told .before .before .before in
+    let accepted = wrote .before .before .before in
+    let read = accepted .before .before .before .before in
+    loaded-made _ (read .receive-sheet .ensures .bytes) (read .receive-sheet .result .loaded) _ (wrote .write-output .result) _ _ (read .receive-sheet .ensures .loads) (accepted .enum-told .given .1)
+    (wrote .write-output .ensures) (told .enum-told2 .given .1) (c .front .ensures)
 
 returns-4 : tie.Need-returns-4
 returns-4 c = search needs
