@@ -15,7 +15,7 @@ use Rattle.rules.specs.Outcomes.{numberOf, Verdict, taken, refused, noBlock, ve
 use Rattle.rules.proofs.Basics.{Every, cond-both}
 use Rattle.rules.proofs.Taken.{end-item, wrong-item, item-along, FigStands, fig-item, taken-block, taken-few}
 use Rattle.rules.proofs.Arrays.{getD-padded}
-use Rattle.rules.proofs.LinkageLaws.{Refusal, full-refusal, refused-full}
+use Rattle.rules.proofs.LinkageLaws.{Refused, Refusal, full-refusal, refused-full}
 use Rattle.field.specs.declared.FieldStep.{FieldStep}
 use Rattle.field.specs.declared.FieldStep.the-variants.{Found, End, Wrong}
 use Rattle.field.specs.FieldStep.{fieldStepAt, meaning, found}
@@ -156,14 +156,14 @@ pub data JudgeAnswer (fib : List ℕ) (r : Judged) : Type 0 where
   done : (fs : List FieldOf) → verdict fib ≡ taken fs → numberOf (r .outcome) ≡ 0 → r .spots .count ≡ length fs → JudgeAnswer fib r
   -- 1
   notABlock : (length fib ≡ 32 → ⊥) → numberOf (r .outcome) ≡ 1 → r .spots ≡ noSpots → JudgeAnswer fib r
-  -- 2 to 6
-  refusedBlock : length fib ≡ 32 → 2 ≤ numberOf (r .outcome) → numberOf (r .outcome) ≤ 6 → r .spots ≡ noSpots → JudgeAnswer fib r
+  -- 2 to 6, each for its reason
+  refusedBlock : length fib ≡ 32 → Refused fib (numberOf (r .outcome)) → r .spots ≡ noSpots → JudgeAnswer fib r
 
 answer-as : (fib : List ℕ) (v : Verdict) → verdict fib ≡ v → JudgeAnswer fib (judgedAs v (located fib))
 unfolding judgedAs numberOf
 answer-as fib (taken fs) e = done fs e refl (placed fib fs e .count)
-answer-as fib (refused o) e = let f = refused-full fib o e in refusedBlock (f .0) (f .1) (f .2) refl
-answer-as fib noBlock e = notABlock (λ l. subst Refusal e (full-refusal fib l)) refl refl
+answer-as fib (refused o) e = let f = refused-full fib o e in refusedBlock (f .0) (f .1) refl
+answer-as fib noBlock e = notABlock (λ l. subst (Refusal fib) e (full-refusal fib l)) refl refl
 
 pub judge-answers : (fib : List ℕ) (r : Judged) → r ≡ judged fib → JudgeAnswer fib r
 unfolding judged

@@ -18,7 +18,7 @@ use Rattle.rules.specs.Collecting.{linkage, IdSet, Held, Content, meets}
 use Rattle.rules.specs.Outcomes as Outcomes
 use Rattle.rules.specs.Outcomes.{numberOf, taken, verdict, leftOver, heldOr, forgetOutcome, copySet, copyHeld, copyOut, notCopied}
 use Rattle.rules.proofs.Basics.{cases-bool, cases-option, none-some, or-cases, or-false-left, or-false-right}
-use Rattle.rules.proofs.LinkageLaws.{cases-verdict, answer-taken, answer-refused, no-block, notes-fields, Refusal, full-refusal, refused-full}
+use Rattle.rules.proofs.LinkageLaws.{cases-verdict, answer-taken, answer-refused, no-block, notes-fields, Refused, Refusal, full-refusal, refused-full}
 use Rattle.rules.proofs.TableRules.{table-rules}
 use Rattle.lists.specs.Stored.{emptyList}
 use Rattle.table.specs.declared.Table.{Table}
@@ -49,9 +49,8 @@ pub data BlockAnswer (t : Table) (fib : List ℕ) (r : Answer) : Type 0 where
   done : Stored t → (fs : List Field) → verdict fib ≡ taken fs → numberOf (r .outcome) ≡ 0 → r .notes .count ≡ length fs → BlockAnswer t fib r
   -- 1: everything is left as it was
   notABlock : Stored t → (length fib ≡ 32 → ⊥) → numberOf (r .outcome) ≡ 1 → r .notes ≡ noNotes → r .table ≡ t → BlockAnswer t fib r
-  -- 2 to 6: everything but the open lists is left as it was
-  refusedBlock : Stored t → length fib ≡ 32 → 2 ≤ numberOf (r .outcome) → numberOf (r .outcome) ≤ 6 → r .notes ≡ noNotes → Dropped t (r .table)
-      → BlockAnswer t fib r
+  -- 2 to 6, each for its reason: everything but the open lists is left as it was
+  refusedBlock : Stored t → length fib ≡ 32 → Refused fib (numberOf (r .outcome)) → r .notes ≡ noNotes → Dropped t (r .table) → BlockAnswer t fib r
   -- 9: everything is left as it was
   wrongTable : (Stored t → ⊥) → numberOf (r .outcome) ≡ 9 → r .notes ≡ noNotes → r .table ≡ t → BlockAnswer t fib r
 
@@ -79,9 +78,9 @@ read-block-answers t fib r (stored c f p a) =
     let q = a ∙ ap runAs (answer-refused c fib o e) in
     let n = ap (λ (x : Answer). numberOf (x .outcome)) q in
     let b = refused-full fib o e in
-    refusedBlock (c, f, p) (b .0) (subst (λ (m : ℕ). 2 ≤ m) (sym n) (b .1)) (subst (λ (m : ℕ). m ≤ 6) (sym n) (b .2))
+    refusedBlock (c, f, p) (b .0) (subst (Refused fib) (sym n) (b .1))
     (ap (λ (x : Answer). x .notes) q ∙ sym no-notes) (dropped t (r .table) c f p (ap (λ (x : Answer). x .table) q)))
-    (λ e. absurd (subst Refusal e (full-refusal fib (eqb-true _ _ l)))))
+    (λ e. absurd (subst (Refusal fib) e (full-refusal fib (eqb-true _ _ l)))))
     (λ l.
     let q = a ∙ ap runAs (no-block c fib (eqb-false _ _ l)) in
     notABlock (c, f, p) (eqb-false _ _ l) (ap (λ (x : Answer). numberOf (x .outcome)) q) (ap (λ (x : Answer). x .notes) q ∙ sym no-notes)

@@ -376,7 +376,7 @@ module _ (bytes : List ℕ) (t₀ t : Table) (notes : Notes) (o : Outcome) (spot
 
   never-none : verdict part ≡ noBlock → ⊥
   unfolding fib
-  never-none v = subst Refusal (ap verdict (sym part-is) ∙ v) (full-refusal fib full)
+  never-none v = subst (Refusal fib) (ap verdict (sym part-is) ∙ v) (full-refusal fib full)
 
   closed-table : (n : IdList) → n ≡ emptyList
       → record { count = t .count; keys = t .keys; on = t .on; shown = t .shown; draft = replicate 32 n } ≡ storeTable (dropOpen linkage (G .now'))

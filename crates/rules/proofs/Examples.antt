@@ -6,15 +6,12 @@ use mathlib.Core.Path.{_≡_, refl}
 use mathlib.Core.Bool.{Bool, true, false}
 use mathlib.Core.List.{List, [], _∷_, map}
 use mathlib.Core.Option.{Option, none, some}
-use Rattle.rules.specs.declared.Outcome.{Outcome}
-use Rattle.rules.specs.declared.Outcome.the-variants.{Done, NotABlock, WrongFig, WrongField, WrongValue, EmptyStart}
-use Rattle.rules.specs.declared.Note.{Note}
-use Rattle.rules.specs.declared.Note.the-variants.{Opened, ShownAndOpened, StateOnly}
+use Rattle.rules.specs.declared.Outcome.the-variants.{Done}
 use Rattle.rules.specs.Block.{bits, bit, number, generator, shift, shifts, register, checkOf, checkHolds, after, walk, figAt, figs}
 use Rattle.rules.specs.Field.{isLinking, width, bigEndian, identifiers, shortField, listField, listBytes, fieldAt, fieldsOf, keyOf, pair, hasList, isContinuation, firstKind, startPairs, pairsOf, namedBy, wrongValue, emptyStart}
 use Rattle.rules.specs.Family.{member, added, addedAll, opening, extended, entryWith, started, continued, onHeld, fresh, onUnheld, kept, effect, find, replace, insert, store, step, steps, closed, dropOpen}
 use Rattle.rules.specs.Collecting.{samePair, joinNames, IdSet, Content, brings, actOf, said, keyWidth, showing, shownSets}
-use Rattle.rules.specs.Outcomes.{Answer, joined, allFields, some?, judgeFields, judgeFigs, verdict, answerTo, readBlock}
+use Rattle.rules.specs.Outcomes.{numberOf, noteNumber, Answer, joined, allFields, some?, judgeFields, judgeFigs, verdict, answerTo, readBlock}
 use Rattle.rules.specs.Air.{hasKind}
 use Rattle.rules.specs.Sheet.{groups, sheetNumber, sheetPairs, sheetSet, sheetSets, sheet}
 use Rattle.rules.specs.Listing.{hexDigit, hexText, decimalTo, decimal, kindLetter, pairText, pairsText, deadText, stateText, idsText, lineOf, linesOf, tailText, listing}
@@ -22,8 +19,14 @@ use Rattle.rules.specs.Listing.{hexDigit, hexText, decimalTo, decimal, k
 -- an example: blocks, read one after the other into the empty table, and the answer to the last of them
 pub record Example : Type 0 where
   pub blocks : List (List ℕ)
-  pub outcome : Outcome
-  pub notes : List Note
+  pub outcome : ℕ
+  pub notes : List ℕ
+  pub left : Content
+
+-- an answer by its numbers
+pub record Numbered : Type 0 where
+  pub outcome : ℕ
+  pub notes : List ℕ
   pub left : Content
 
 unfoldable pub lastAnswer : Answer → List (List ℕ) → Answer
@@ -31,10 +34,12 @@ lastAnswer a [] = a
 lastAnswer a (b ∷ bs) = lastAnswer (readBlock (a .left) b) bs
 
 -- the table is empty at the start
-unfoldable pub given : Example → Answer
-given x = lastAnswer (record { outcome = Done; notes = []; left = [] }) (x .blocks)
+unfoldable pub given : Example → Numbered
+given x =
+    let a = lastAnswer (record { outcome = Done; notes = []; left = [] }) (x .blocks) in
+    record { outcome = numberOf (a .outcome); notes = map noteNumber (a .notes); left = a .left }
 
-unfoldable pub expected : Example → Answer
+unfoldable pub expected : Example → Numbered
 expected x = record { outcome = x .outcome; notes = x .notes; left = x .left }
 
 abbrev linked : List ℕ
@@ -59,36 +64,36 @@ unfoldable pub examples : List Example
 unfolding pair
 examples =
     -- 1: a start: key 2004 opened, list DAB 44B1, RDS 44B1, nothing shown
-    record { blocks = linked ∷ []; outcome = Done; notes = Opened ∷ []; left = E true none (some two) } ∷
+    record { blocks = linked ∷ []; outcome = 0; notes = 1 ∷ []; left = E true none (some two) } ∷
     -- 2: the same again: shown, on, RDS named
-    record { blocks = linked ∷ linked ∷ []; outcome = Done; notes = ShownAndOpened ∷ []; left = E true (some two) (some two) } ∷
+    record { blocks = linked ∷ linked ∷ []; outcome = 0; notes = 2 ∷ []; left = E true (some two) (some two) } ∷
     -- 3: then the short form with LA 0: off, list the same
-    record { blocks = linked ∷ linked ∷ short ∷ []; outcome = Done; notes = StateOnly ∷ []; left = E false (some two) (some two) } ∷
+    record { blocks = linked ∷ linked ∷ short ∷ []; outcome = 0; notes = 7 ∷ []; left = E false (some two) (some two) } ∷
     -- 4: a failing check in between: nothing shown
-    record { blocks = linked ∷ failing ∷ linked ∷ []; outcome = Done; notes = Opened ∷ []; left = E true none (some two) } ∷
+    record { blocks = linked ∷ failing ∷ linked ∷ []; outcome = 0; notes = 1 ∷ []; left = E true none (some two) } ∷
     -- 5: first data byte FF: done, no notes
-    record { blocks = (255 ∷ 0 ∷ 0 ∷ 0 ∷ 0 ∷ 0 ∷ 0 ∷ 0 ∷ 0 ∷ 0 ∷ 0 ∷ 0 ∷ 0 ∷ 0 ∷ 0 ∷ 0 ∷ 0 ∷ 0 ∷ 0 ∷ 0 ∷ 0 ∷ 0 ∷ 0 ∷ 0 ∷ 0 ∷ 0 ∷ 0 ∷ 0 ∷ 0 ∷ 0 ∷ 168 ∷ 168 ∷ []) ∷ []; outcome = Done; notes = []; left = [] } ∷
+    record { blocks = (255 ∷ 0 ∷ 0 ∷ 0 ∷ 0 ∷ 0 ∷ 0 ∷ 0 ∷ 0 ∷ 0 ∷ 0 ∷ 0 ∷ 0 ∷ 0 ∷ 0 ∷ 0 ∷ 0 ∷ 0 ∷ 0 ∷ 0 ∷ 0 ∷ 0 ∷ 0 ∷ 0 ∷ 0 ∷ 0 ∷ 0 ∷ 0 ∷ 0 ∷ 0 ∷ 168 ∷ 168 ∷ []) ∷ []; outcome = 0; notes = []; left = [] } ∷
     -- 6: first byte 00: 3
-    record { blocks = (0 ∷ 255 ∷ 0 ∷ 0 ∷ 0 ∷ 0 ∷ 0 ∷ 0 ∷ 0 ∷ 0 ∷ 0 ∷ 0 ∷ 0 ∷ 0 ∷ 0 ∷ 0 ∷ 0 ∷ 0 ∷ 0 ∷ 0 ∷ 0 ∷ 0 ∷ 0 ∷ 0 ∷ 0 ∷ 0 ∷ 0 ∷ 0 ∷ 0 ∷ 0 ∷ 130 ∷ 237 ∷ []) ∷ []; outcome = WrongFig; notes = []; left = [] } ∷
+    record { blocks = (0 ∷ 255 ∷ 0 ∷ 0 ∷ 0 ∷ 0 ∷ 0 ∷ 0 ∷ 0 ∷ 0 ∷ 0 ∷ 0 ∷ 0 ∷ 0 ∷ 0 ∷ 0 ∷ 0 ∷ 0 ∷ 0 ∷ 0 ∷ 0 ∷ 0 ∷ 0 ∷ 0 ∷ 0 ∷ 0 ∷ 0 ∷ 0 ∷ 0 ∷ 0 ∷ 130 ∷ 237 ∷ []) ∷ []; outcome = 3; notes = []; left = [] } ∷
     -- 7: a field of one byte: 4
-    record { blocks = (2 ∷ 6 ∷ 32 ∷ 255 ∷ 0 ∷ 0 ∷ 0 ∷ 0 ∷ 0 ∷ 0 ∷ 0 ∷ 0 ∷ 0 ∷ 0 ∷ 0 ∷ 0 ∷ 0 ∷ 0 ∷ 0 ∷ 0 ∷ 0 ∷ 0 ∷ 0 ∷ 0 ∷ 0 ∷ 0 ∷ 0 ∷ 0 ∷ 0 ∷ 0 ∷ 7 ∷ 56 ∷ []) ∷ []; outcome = WrongField; notes = []; left = [] } ∷
+    record { blocks = (2 ∷ 6 ∷ 32 ∷ 255 ∷ 0 ∷ 0 ∷ 0 ∷ 0 ∷ 0 ∷ 0 ∷ 0 ∷ 0 ∷ 0 ∷ 0 ∷ 0 ∷ 0 ∷ 0 ∷ 0 ∷ 0 ∷ 0 ∷ 0 ∷ 0 ∷ 0 ∷ 0 ∷ 0 ∷ 0 ∷ 0 ∷ 0 ∷ 0 ∷ 0 ∷ 7 ∷ 56 ∷ []) ∷ []; outcome = 4; notes = []; left = [] } ∷
     -- 8: LSN 0: 5
-    record { blocks = (3 ∷ 6 ∷ 32 ∷ 0 ∷ 255 ∷ 0 ∷ 0 ∷ 0 ∷ 0 ∷ 0 ∷ 0 ∷ 0 ∷ 0 ∷ 0 ∷ 0 ∷ 0 ∷ 0 ∷ 0 ∷ 0 ∷ 0 ∷ 0 ∷ 0 ∷ 0 ∷ 0 ∷ 0 ∷ 0 ∷ 0 ∷ 0 ∷ 0 ∷ 0 ∷ 118 ∷ 116 ∷ []) ∷ []; outcome = WrongValue; notes = []; left = [] } ∷
+    record { blocks = (3 ∷ 6 ∷ 32 ∷ 0 ∷ 255 ∷ 0 ∷ 0 ∷ 0 ∷ 0 ∷ 0 ∷ 0 ∷ 0 ∷ 0 ∷ 0 ∷ 0 ∷ 0 ∷ 0 ∷ 0 ∷ 0 ∷ 0 ∷ 0 ∷ 0 ∷ 0 ∷ 0 ∷ 0 ∷ 0 ∷ 0 ∷ 0 ∷ 0 ∷ 0 ∷ 118 ∷ 116 ∷ []) ∷ []; outcome = 5; notes = []; left = [] } ∷
     -- 9: a start with count 0: 6
-    record { blocks = (4 ∷ 6 ∷ 224 ∷ 4 ∷ 0 ∷ 255 ∷ 0 ∷ 0 ∷ 0 ∷ 0 ∷ 0 ∷ 0 ∷ 0 ∷ 0 ∷ 0 ∷ 0 ∷ 0 ∷ 0 ∷ 0 ∷ 0 ∷ 0 ∷ 0 ∷ 0 ∷ 0 ∷ 0 ∷ 0 ∷ 0 ∷ 0 ∷ 0 ∷ 0 ∷ 224 ∷ 165 ∷ []) ∷ []; outcome = EmptyStart; notes = []; left = [] } ∷
+    record { blocks = (4 ∷ 6 ∷ 224 ∷ 4 ∷ 0 ∷ 255 ∷ 0 ∷ 0 ∷ 0 ∷ 0 ∷ 0 ∷ 0 ∷ 0 ∷ 0 ∷ 0 ∷ 0 ∷ 0 ∷ 0 ∷ 0 ∷ 0 ∷ 0 ∷ 0 ∷ 0 ∷ 0 ∷ 0 ∷ 0 ∷ 0 ∷ 0 ∷ 0 ∷ 0 ∷ 224 ∷ 165 ∷ []) ∷ []; outcome = 6; notes = []; left = [] } ∷
     -- 10: a field without a list, then a lone byte: 4
-    record { blocks = (4 ∷ 38 ∷ 54 ∷ 224 ∷ 4 ∷ 255 ∷ 0 ∷ 0 ∷ 0 ∷ 0 ∷ 0 ∷ 0 ∷ 0 ∷ 0 ∷ 0 ∷ 0 ∷ 0 ∷ 0 ∷ 0 ∷ 0 ∷ 0 ∷ 0 ∷ 0 ∷ 0 ∷ 0 ∷ 0 ∷ 0 ∷ 0 ∷ 0 ∷ 0 ∷ 34 ∷ 9 ∷ []) ∷ []; outcome = WrongField; notes = []; left = [] } ∷
+    record { blocks = (4 ∷ 38 ∷ 54 ∷ 224 ∷ 4 ∷ 255 ∷ 0 ∷ 0 ∷ 0 ∷ 0 ∷ 0 ∷ 0 ∷ 0 ∷ 0 ∷ 0 ∷ 0 ∷ 0 ∷ 0 ∷ 0 ∷ 0 ∷ 0 ∷ 0 ∷ 0 ∷ 0 ∷ 0 ∷ 0 ∷ 0 ∷ 0 ∷ 0 ∷ 0 ∷ 34 ∷ 9 ∷ []) ∷ []; outcome = 4; notes = []; left = [] } ∷
     -- 10: with 00 directly after it: 3
-    record { blocks = (4 ∷ 38 ∷ 54 ∷ 224 ∷ 4 ∷ 0 ∷ 255 ∷ 0 ∷ 0 ∷ 0 ∷ 0 ∷ 0 ∷ 0 ∷ 0 ∷ 0 ∷ 0 ∷ 0 ∷ 0 ∷ 0 ∷ 0 ∷ 0 ∷ 0 ∷ 0 ∷ 0 ∷ 0 ∷ 0 ∷ 0 ∷ 0 ∷ 0 ∷ 0 ∷ 164 ∷ 200 ∷ []) ∷ []; outcome = WrongFig; notes = []; left = [] } ∷
+    record { blocks = (4 ∷ 38 ∷ 54 ∷ 224 ∷ 4 ∷ 0 ∷ 255 ∷ 0 ∷ 0 ∷ 0 ∷ 0 ∷ 0 ∷ 0 ∷ 0 ∷ 0 ∷ 0 ∷ 0 ∷ 0 ∷ 0 ∷ 0 ∷ 0 ∷ 0 ∷ 0 ∷ 0 ∷ 0 ∷ 0 ∷ 0 ∷ 0 ∷ 0 ∷ 0 ∷ 164 ∷ 200 ∷ []) ∷ []; outcome = 3; notes = []; left = [] } ∷
     -- 11: 31 bytes: 1, open lists kept
-    record { blocks = linked ∷ (8 ∷ 6 ∷ 224 ∷ 4 ∷ 34 ∷ 68 ∷ 177 ∷ 68 ∷ 177 ∷ 255 ∷ 0 ∷ 0 ∷ 0 ∷ 0 ∷ 0 ∷ 0 ∷ 0 ∷ 0 ∷ 0 ∷ 0 ∷ 0 ∷ 0 ∷ 0 ∷ 0 ∷ 0 ∷ 0 ∷ 0 ∷ 0 ∷ 0 ∷ 0 ∷ 195 ∷ []) ∷ []; outcome = NotABlock; notes = []; left = E true none (some two) } ∷
+    record { blocks = linked ∷ (8 ∷ 6 ∷ 224 ∷ 4 ∷ 34 ∷ 68 ∷ 177 ∷ 68 ∷ 177 ∷ 255 ∷ 0 ∷ 0 ∷ 0 ∷ 0 ∷ 0 ∷ 0 ∷ 0 ∷ 0 ∷ 0 ∷ 0 ∷ 0 ∷ 0 ∷ 0 ∷ 0 ∷ 0 ∷ 0 ∷ 0 ∷ 0 ∷ 0 ∷ 0 ∷ 195 ∷ []) ∷ []; outcome = 1; notes = []; left = E true none (some two) } ∷
     -- 12: a FIG that fills the block, of another extension: done, no notes
-    record { blocks = (29 ∷ 1 ∷ 0 ∷ 0 ∷ 0 ∷ 0 ∷ 0 ∷ 0 ∷ 0 ∷ 0 ∷ 0 ∷ 0 ∷ 0 ∷ 0 ∷ 0 ∷ 0 ∷ 0 ∷ 0 ∷ 0 ∷ 0 ∷ 0 ∷ 0 ∷ 0 ∷ 0 ∷ 0 ∷ 0 ∷ 0 ∷ 0 ∷ 0 ∷ 0 ∷ 209 ∷ 55 ∷ []) ∷ []; outcome = Done; notes = []; left = [] } ∷
+    record { blocks = (29 ∷ 1 ∷ 0 ∷ 0 ∷ 0 ∷ 0 ∷ 0 ∷ 0 ∷ 0 ∷ 0 ∷ 0 ∷ 0 ∷ 0 ∷ 0 ∷ 0 ∷ 0 ∷ 0 ∷ 0 ∷ 0 ∷ 0 ∷ 0 ∷ 0 ∷ 0 ∷ 0 ∷ 0 ∷ 0 ∷ 0 ∷ 0 ∷ 0 ∷ 0 ∷ 209 ∷ 55 ∷ []) ∷ []; outcome = 0; notes = []; left = [] } ∷
     []
 
 -- each of them gives what it should
 pub examples-hold : map given examples ≡ map expected examples
-unfolding examples given expected lastAnswer bits bit number generator shift shifts register checkOf checkHolds after walk figAt figs isLinking width bigEndian identifiers shortField listField listBytes fieldAt fieldsOf keyOf pair hasList isContinuation firstKind startPairs pairsOf namedBy wrongValue emptyStart member added addedAll opening extended entryWith started continued onHeld fresh onUnheld kept effect find replace insert store step steps closed dropOpen samePair joinNames brings actOf said joined allFields some? judgeFields judgeFigs verdict answerTo readBlock mathlib.Core.Bool.xor mathlib.Core.List.zipWith
+unfolding examples given expected numberOf noteNumber lastAnswer bits bit number generator shift shifts register checkOf checkHolds after walk figAt figs isLinking width bigEndian identifiers shortField listField listBytes fieldAt fieldsOf keyOf pair hasList isContinuation firstKind startPairs pairsOf namedBy wrongValue emptyStart member added addedAll opening extended entryWith started continued onHeld fresh onUnheld kept effect find replace insert store step steps closed dropOpen samePair joinNames brings actOf said joined allFields some? judgeFields judgeFigs verdict answerTo readBlock mathlib.Core.Bool.xor mathlib.Core.List.zipWith
 examples-hold = refl
 
 -- ---- examples 15 and 16: what is written of the table that example 2 leaves

@@ -1,11 +1,12 @@
 -- The laws above the definitions of specs/. In order: small helpers; lists in arrays; the starred examples; the laws of collecting
--- over any family and its runs; the table rules taken apart; the fields of a taken block and the linkage sets; demand 3 with the
+-- over any family, its notes and its runs; the table rules taken apart; the fields of a taken block and the linkage sets; demand 3 with the
 -- simulation behind it and the counterexamples to what it does not say; writing for air and reading it back; the sheet and its
 -- parser.
 pub mod Basics
 pub mod Arrays
 pub mod Examples
 pub mod FamilyLaws
+pub mod Notes
 pub mod Runs
 pub mod TableRules
 pub mod Taken

@@ -279,81 +279,75 @@ notes-fields t fib fs e = rw (answer-taken t fib fs e) (steps-notes linkage t (m
 
 -- ---- refused blocks
 
--- dropping open lists leaves what is shown, the held keys and their on or off
-pub showing-closed : (e : Held) (o : Option IdSet) (xs ys : List Shown) → xs ≡ ys → showing (closed linkage e) o xs ≡ showing e o ys
-unfolding showing closed entryWith
-showing-closed e none xs ys h = h
-showing-closed e (some l) xs ys h = ap (_∷_ (record { key = e .key; on = e .state; set = l })) h
+-- why a block of full length is refused, and its number: each condition over the whole block before the next (document 01,
+-- Numbered outcomes)
+pub data Refused (fib : List ℕ) : ℕ → Type 0 where
+  -- 2: the check fails
+  failingCheck : checkHolds fib ≡ false → Refused fib 2
+  -- 3: the FIG walk breaks
+  brokenFigs : checkHolds fib ≡ true → (p : ℕ) → figs fib ≡ broken p → Refused fib 3
+  -- 4: a field does not fit
+  brokenFields : checkHolds fib ≡ true → (gs : List Fig) → figs fib ≡ whole gs → (p : ℕ) → allFields gs ≡ broken p → Refused fib 4
+  -- 5: some field has a wrong value
+  badValue : checkHolds fib ≡ true → (gs : List Fig) → figs fib ≡ whole gs → (fs : List Field) → allFields gs ≡ whole fs
+      → some? wrongValue fs ≡ true → Refused fib 5
+  -- 6: some start is empty
+  noFirst : checkHolds fib ≡ true → (gs : List Fig) → figs fib ≡ whole gs → (fs : List Field) → allFields gs ≡ whole fs
+      → some? wrongValue fs ≡ false → some? emptyStart fs ≡ true → Refused fib 6
 
-pub shown-drop-open : (t : Content) → shownSets (dropOpen linkage t) ≡ shownSets t
-unfolding shownSets dropOpen closed entryWith
-shown-drop-open [] = refl
-shown-drop-open (e ∷ es) = showing-closed e (e .shown) (shownSets (dropOpen linkage es)) (shownSets es) (shown-drop-open es)
+-- what a verdict on a block of full length says: it is no other than these
+abbrev pub Refusal : List ℕ → Verdict → Type 0
+Refusal fib (taken fs) = Unit {0}
+Refusal fib (refused o) = Refused fib (numberOf o)
+Refusal fib noBlock = ⊥
 
--- the outcomes of a block of full length that is not taken: 2 to 6
-abbrev pub Refusal : Verdict → Type 0
-Refusal (taken fs) = Unit {0}
-Refusal (refused o) = (2 ≤ numberOf o) × (numberOf o ≤ 6)
-Refusal noBlock = ⊥
+module _ (fib : List ℕ) (h : checkHolds fib ≡ true) where
+  fields-refusal : (gs : List Fig) → figs fib ≡ whole gs → (w : Walk Field) → allFields gs ≡ w → Refusal fib (judgeFields w)
+  unfolding judgeFields numberOf
+  fields-refusal gs g (broken p) e = brokenFields h gs g p e
+  fields-refusal gs g (whole fs) e =
+      cases-bool (some? wrongValue fs)
+      (λ v. rw v (badValue h gs g fs e v))
+      (λ v. rw v (cases-bool (some? emptyStart fs) (λ s. rw s (noFirst h gs g fs e v s)) (λ s. rw s tt)))
 
-pub fields-refusal : (w : Walk Field) → Refusal (judgeFields w)
-unfolding judgeFields numberOf
-fields-refusal (broken p) = (omega arith, omega arith)
-fields-refusal (whole fs) =
-    cond-both Refusal (some? wrongValue fs) _ _ (omega arith, omega arith) (cond-both Refusal (some? emptyStart fs) _ _ (omega arith, omega arith) tt)
+  figs-refusal : (w : Walk Fig) → figs fib ≡ w → Refusal fib (judgeFigs w)
+  unfolding judgeFigs numberOf
+  figs-refusal (broken p) e = brokenFigs h p e
+  figs-refusal (whole gs) e = fields-refusal gs e (allFields gs) refl
 
-pub figs-refusal : (w : Walk Fig) → Refusal (judgeFigs w)
-unfolding judgeFigs numberOf
-figs-refusal (broken p) = (omega arith, omega arith)
-figs-refusal (whole gs) = fields-refusal (allFields gs)
-
-pub full-refusal : (fib : List ℕ) → length fib ≡ 32 → Refusal (verdict fib)
+pub full-refusal : (fib : List ℕ) → length fib ≡ 32 → Refusal fib (verdict fib)
 unfolding verdict numberOf
 full-refusal fib l =
-    rw (eq-eqb (length fib) 32 l) (cond-both Refusal (checkHolds fib) _ _ (figs-refusal (figs fib)) (omega arith, omega arith))
+    rw (eq-eqb (length fib) 32 l)
+    (cases-bool (checkHolds fib) (λ h. rw h (figs-refusal fib h (figs fib) refl)) (λ h. rw h (failingCheck h)))
 
 -- so what is refused is a block of full length
-pub refused-full : (fib : List ℕ) (o : Outcome) → verdict fib ≡ refused o → (length fib ≡ 32) × (2 ≤ numberOf o) × (numberOf o ≤ 6)
+pub refused-full : (fib : List ℕ) (o : Outcome) → verdict fib ≡ refused o → (length fib ≡ 32) × Refused fib (numberOf o)
 refused-full fib o e =
     cases-bool (eqb (length fib) 32)
     (λ l.
     let full = eqb-true (length fib) 32 l in
-    let b = subst Refusal e (full-refusal fib full) in
-    (full, b .0, b .1))
+    (full, subst (Refusal fib) e (full-refusal fib full)))
     (λ l.
     let none : verdict fib ≡ noBlock = unfold verdict in rw l in
     let z : _≡_ {A = ℕ} 0 1 = cc in
     absurd (omega arith))
 
+-- and its number is none but 2 to 6
+pub refused-numbers : {fib : List ℕ} {n : ℕ} → Refused fib n → (2 ≤ n) × (n ≤ 6)
+refused-numbers (failingCheck h) = (omega arith, omega arith)
+refused-numbers (brokenFigs h p e) = (omega arith, omega arith)
+refused-numbers (brokenFields h gs g p e) = (omega arith, omega arith)
+refused-numbers (badValue h gs g fs e v) = (omega arith, omega arith)
+refused-numbers (noFirst h gs g fs e v s) = (omega arith, omega arith)
+
 pub refused-not-done : (fib : List ℕ) (o : Outcome) → verdict fib ≡ refused o → o ≡ Done → ⊥
 unfolding numberOf
-refused-not-done fib o e d = omega (arith, ap numberOf d, refused-full fib o e .1)
-
--- a block of full length that is not taken drops the open lists and does nothing else
-pub record Refused (t : Content) (a : Answer) : Type 0 where
-  pub notes : a .notes ≡ []
-  pub left : a .left ≡ dropOpen linkage t
-  pub shown : shownSets (a .left) ≡ shownSets t
-
-pub refused-leaves : (t : Content) (fib : List ℕ) → length fib ≡ 32 → (readBlock t fib .outcome ≡ Done → ⊥) → Refused t (readBlock t fib)
-refused-leaves t fib l d =
-    cases-verdict (verdict fib)
-    (λ fs e. absurd (d (ap (λ (a : Answer). a .outcome) (answer-taken t fib fs e))))
-    (λ o e. subst (Refused t) (sym (answer-refused t fib o e)) (record { notes = refl; left = refl; shown = shown-drop-open t }))
-    (λ e. absurd (subst Refusal e (full-refusal fib l)))
+refused-not-done fib o e d = omega (arith, ap numberOf d, refused-numbers (refused-full fib o e .1) .0)
 
 -- what has not 32 bytes is no block, and nothing changes
 pub no-block : (t : Content) (fib : List ℕ) → (length fib ≡ 32 → ⊥) → readBlock t fib ≡ record { outcome = NotABlock; notes = []; left = t }
 no-block t fib h = answer-none t fib (unfold verdict in rw (ne-eqb (length fib) 32 h))
-
--- every outcome of reading a block is one of 0 to 6
-pub outcome-low : (t : Content) (fib : List ℕ) → numberOf (readBlock t fib .outcome) ≤ 6
-unfolding numberOf
-outcome-low t fib =
-    cases-verdict (verdict fib)
-    (λ fs e. subst (λ (a : Answer). numberOf (a .outcome) ≤ 6) (sym (answer-taken t fib fs e)) (omega arith))
-    (λ o e. subst (λ (a : Answer). numberOf (a .outcome) ≤ 6) (sym (answer-refused t fib o e)) (refused-full fib o e .2))
-    (λ e. subst (λ (a : Answer). numberOf (a .outcome) ≤ 6) (sym (answer-none t fib e)) (omega arith))
 
 -- ---- recordings
 
