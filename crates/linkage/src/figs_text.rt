@@ -1,9 +1,11 @@
 // The FIGs of blocks as text: each block has a line with its number, from 0, and a word where its check fails, and then a line
 // for each FIG, with its type and the length of its body; where the walk finds a wrong FIG it says so and stops. Bytes left over
 // at the end are counted in a last line. A block with a failing check is walked all the same.
+// The walk goes by the reader of crate reader. The borrow checker covers no function over a struct that holds a slice, so `walk`
+// is proved by hand.
+ghost use mathlib.Core.Path.{_≡_};
 ghost use Prim.Native.Nat.{_+_, _<_, _≤_};
 ghost use lib.ListN.{length};
-use figs::Cursor;
 use figs::FigStep;
 use input::some_holds;
 use libc::STDOUT_FILENO;
@@ -11,12 +13,85 @@ use out::front;
 use out::put;
 use out::put_bytes;
 use out::put_decimal;
+use reader::FigReader;
 
-// The place after a text, and where the walk goes on: no further where `more` is false.
-struct Put {
-    size: usize,
-    next: usize,
-    more: bool,
+// What a walk found so far: the type and the length of the body of each FIG, in order, how many FIGs, and whether it ended at a
+// wrong one; and how many steps may still be made.
+struct Walked {
+    kinds: [u8; 31],
+    sizes: [usize; 31],
+    count: usize,
+    wrong: bool,
+    left: usize,
+}
+
+// A walk before its first step. The steps are as many as the rules give a walk, and are never used up.
+fn begun() -> Walked {
+    Walked {
+        kinds: [0; 31],
+        sizes: [0; 31],
+        count: 0,
+        wrong: false,
+        left: 31,
+    }
+}
+
+// A walk after one more FIG. There are never more FIGs than steps; the test is there so that the place is in range.
+fn with_fig(walked: Walked, kind: u8, size: usize) -> Walked
+    requires { ⌜ 0 < walked .left ⌝ }
+    ensures { λ r. ⌜ r .left < walked .left ⌝ }
+{
+    let mut after = walked;
+    let i = walked.count;
+    if i < 31 {
+        after.kinds[i] = kind;
+        after.sizes[i] = size;
+        after.count = i + 1;
+    }
+    after.left = walked.left - 1;
+    after
+}
+
+// A walk that is over.
+fn ended(walked: Walked, wrong: bool) -> Walked
+    ensures { λ r. ⌜ r .left ≡ 0 ⌝ }
+{
+    let mut after = walked;
+    after.wrong = wrong;
+    after.left = 0;
+    after
+}
+
+// A walk after what a step found. No step gives a body that ends before its start; the test is there so that the difference is
+// in order.
+fn noted(walked: Walked, found: FigStep) -> Walked
+    requires { ⌜ 0 < walked .left ⌝ }
+    ensures { λ r. ⌜ r .left < walked .left ⌝ }
+{
+    match found {
+        FigStep::Fig {
+            kind,
+            start,
+            end,
+            next: _,
+        } => {
+            let size = if start <= end { end - start } else { 0 };
+            with_fig(walked, kind, size)
+        }
+        FigStep::End => ended(walked, false),
+        FigStep::Wrong => ended(walked, true),
+    }
+}
+
+// Walks a block by a reader, to the end or to a wrong FIG.
+fn walk(fib: &[u8]) -> Walked {
+    let mut reader = FigReader::over(fib);
+    let mut walked = begun();
+    while 0 < walked.left {
+        let found = reader.step();
+        walked = noted(walked, found);
+    }
+    walked
 }
 
 // The line of a FIG.
@@ -28,50 +103,18 @@ fn put_fig(text: &mut [u8], at: usize, kind: u8, size: usize) -> usize {
     put(text, d, 10)
 }
 
-// The line of what stands at a place of a block, if it has one. No step gives a body that ends before its start; the test is
-// there so that the difference is in order.
-fn put_step(text: &mut [u8], at: usize, fib: &[u8], place: usize) -> Put {
-    match (Cursor { at: place }).step(fib) {
-        FigStep::Fig {
-            kind,
-            start,
-            end,
-            next,
-        } => {
-            let length = if start <= end { end - start } else { 0 };
-            Put {
-                size: put_fig(text, at, kind, length),
-                next: next.at,
-                more: true,
-            }
-        }
-        FigStep::End => Put {
-            size: at,
-            next: place,
-            more: false,
-        },
-        FigStep::Wrong => Put {
-            size: put_bytes(text, at, b"wrong FIG\n"),
-            next: place,
-            more: false,
-        },
+// The lines of the FIGs that a walk found, from a place of the text on, and the place after them.
+fn put_figs(text: &mut [u8], at: usize, walked: Walked) -> usize {
+    let mut end = at;
+    let mut i: usize = 0;
+    while i < 31 && i < walked.count {
+        end = put_fig(text, end, walked.kinds[i], walked.sizes[i]);
+        i += 1;
     }
-}
-
-// The lines of a block's FIGs, from a place of the text on, and the place after them. The steps are as many as the rules give a
-// walk, and are never used up.
-fn put_figs(text: &mut [u8], at: usize, fib: &[u8]) -> usize {
-    let mut put = Put {
-        size: at,
-        next: 0,
-        more: true,
-    };
-    let mut left: usize = 31;
-    while put.more && 0 < left {
-        put = put_step(text, put.size, fib, put.next);
-        left -= 1;
+    if walked.wrong {
+        return put_bytes(text, end, b"wrong FIG\n");
     }
-    put.size
+    end
 }
 
 // The end of a block's first line, which says where its check fails.
@@ -87,7 +130,7 @@ fn put_block(text: &mut [u8], number: usize, fib: &[u8]) -> usize {
     let a = put_bytes(text, 0, b"block ");
     let b = put_decimal(text, a, number);
     let c = put_check(text, b, crc::check_holds(fib));
-    put_figs(text, c, fib)
+    put_figs(text, c, walk(fib))
 }
 
 // The line of the bytes left over, if there are any, to standard output.

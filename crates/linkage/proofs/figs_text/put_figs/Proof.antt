@@ -1,32 +1,48 @@
--- `figs_text::put_figs` ends: the steps that are left fall. The text keeps its length.
+-- `figs_text::put_figs` is safe and ends: a place is read only below 31, and the places that are left fall. The text keeps its length.
 use mathlib.Core.Path.{_≡_}
 use native.Mathlib.Omega.{arith}
 use borrow.Author.Tests.{ltb-true}
+use Prim.Native.Nat.{_-_}
 use lib.ListN.{length}
 use borrow.Author.Needs.{needs}
 use Rattle.linkage.proofs.figs_text.put_figs.Statement.{statement}
 use Rattle.linkage.proofs.figs_text.put_figs.Tie as tie
 
 abbrev Inv-loop : tie.InvT-loop
-Inv-loop text₀ at fib put₀ left₀ text put left = length text ≡ length text₀
+Inv-loop text₀ at walked end₀ i₀ t7 text end i = length text ≡ length text₀
 
 abbrev μ-loop : tie.MeasureT-loop
-μ-loop text₀ at fib put₀ left₀ text put left = left
+μ-loop text₀ at walked end₀ i₀ t7 text end i = 31 - i
 
 loop-holds : tie.Need-loop-holds Inv-loop μ-loop
 loop-holds c = search needs
 
-put-step-requires : tie.Need-put-step-requires Inv-loop μ-loop
-put-step-requires c κs = search needs
+element-copy-out-put-fig : tie.Need-element-copy-out-put-fig Inv-loop μ-loop
+element-copy-out-put-fig c = search needs
 
-sub-left : tie.Need-sub-left Inv-loop μ-loop
-sub-left c = search needs
+mul-put-fig : tie.Need-mul-put-fig Inv-loop μ-loop
+mul-put-fig c = search needs
+
+element-copy-out-put-fig-2 : tie.Need-element-copy-out-put-fig-2 Inv-loop μ-loop
+element-copy-out-put-fig-2 c = search needs
+
+put-fig-requires : tie.Need-put-fig-requires Inv-loop μ-loop
+put-fig-requires c κs = search needs
+
+add-i : tie.Need-add-i Inv-loop μ-loop
+add-i c = search needs
 
 loop-less : tie.Need-loop-less Inv-loop μ-loop
 loop-less c = omega (arith, ltb-true)
 
 loop-again : tie.Need-loop-again Inv-loop μ-loop
 loop-again c = search needs
+
+slice-aggregate-put-bytes : tie.Need-slice-aggregate-put-bytes Inv-loop μ-loop
+slice-aggregate-put-bytes c = search needs
+
+put-bytes-requires : tie.Need-put-bytes-requires Inv-loop μ-loop
+put-bytes-requires c κs = search needs
 
 same-length : tie.Need-same-length Inv-loop μ-loop
 same-length c = search needs
@@ -47,10 +63,15 @@ put-figs-spec =
     Inv-loop
     μ-loop
     loop-holds
-    put-step-requires
-    sub-left
+    element-copy-out-put-fig
+    mul-put-fig
+    element-copy-out-put-fig-2
+    put-fig-requires
+    add-i
     loop-less
     loop-again
+    slice-aggregate-put-bytes
+    put-bytes-requires
     same-length
     returns
     same-length-2
