@@ -91,7 +91,11 @@ fn remark_blocks(size: usize, good: bool) {
 // What is worth knowing of a recording beside what is listed.
 fn remark(received: Received) {
     if received.rest != 0 {
-        say_number(b"a rest of ", received.rest, b" bytes at the end is no block");
+        say_number(
+            b"a rest of ",
+            received.rest,
+            b" bytes at the end is no block",
+        );
     }
     remark_blocks(received.size, received.good);
     if received.good {
