@@ -5,7 +5,8 @@
 Its table of public functions has a row for every `pub fn` of the libraries; each names at least two wrong programs whose edits change code
 and one whose edit changes a definition, or says why there is none; and every edit that there is stands in that table, in
 the one of document 01's wrong programs or in that of the command. Every old text of an edit stands exactly once where it says, and every statement that is copied
-stands so in the source. Exit status 1 otherwise.
+stands so in the source. Every name of a definition, a theorem or a function that STATEMENTS.md or RULES.md sets apart is declared in
+some crate. Exit status 1 otherwise.
 """
 
 import re
@@ -71,6 +72,28 @@ def quotes(text):
         yield path, re.sub(r"^    ", "", part.strip("\n"), flags=re.M)
 
 
+def declared():
+    """Every name that some crate declares: definitions, laws, constructors and fields, functions and types."""
+    names = set()
+    for path in sorted(ROOT.glob("crates/**/*.antt")):
+        names.update(re.findall(r"^ *(?:(?:unfoldable|abbrev|pub|data|record) )*([^\s:(){}]+)(?: [^:\n]*)? : ", path.read_text(), re.M))
+    for path in sorted(ROOT.glob("crates/**/*.rt")):
+        names.update(re.findall(r"(?:fn|struct|enum) (\w+)", path.read_text()))
+    return names
+
+
+# Words set apart that are no names of ours: commands, programs, files, the kit's, and words of the product.
+OTHERS = set("""linkage listing replay rules promises input min take Counts ensures pub done no find sort cksum sed readlink rt""".split())
+
+
+def cited(text):
+    """The names that a page sets apart: single words in backquotes, without those of paths and of the copied source."""
+    for word in re.findall(r"`([^`\n ]+)`", re.sub(r"^    .*$", "", text, flags=re.M)):
+        word = word.rsplit("::", 1)[-1]
+        if re.fullmatch(r"[A-Za-z][\w?'-]*", word) and word not in OTHERS:
+            yield word
+
+
 def main():
     text = (ROOT / "docs/STATEMENTS.md").read_text()
     known, wrong, used = edits(), [], set()
@@ -93,6 +116,9 @@ def main():
     wrong += ["%s: %s: an edit that STATEMENTS.md does not name" % key for key in known if key not in used]
     copied = list(quotes(text))
     wrong += ["%s: not there as copied: %s" % (path, part.splitlines()[0]) for path, part in copied if part not in (ROOT / path).read_text()]
+    names = declared() | {name for _, name in known} | {path.name for path in ROOT.glob("crates/*")}
+    for page in ("docs/STATEMENTS.md", "docs/RULES.md"):
+        wrong += ["%s: nothing is called %s" % (page, word) for word in sorted(set(cited((ROOT / page).read_text()))) if word not in names]
     for line in wrong:
         print("FAILED  " + line)
     if not wrong:

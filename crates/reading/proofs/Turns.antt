@@ -12,7 +12,7 @@ use lib.Seq.{take-take, drop-drop, set-getD}
 use borrow.Author.Tests.{ltb-true, ltb-false, eqb-true, eqb-false, not-true}
 use Rattle.rules.specs.Arrays.{padded}
 use Rattle.rules.specs.declared.Outcome.{Outcome}
-use Rattle.rules.specs.declared.Outcome.the-variants.{Done, NotABlock, CheckFails, WrongFig, WrongField, WrongValue, EmptyStart, NotHeld, ShortBuffer, WrongTable, NotASheet, NotShown}
+use Rattle.rules.specs.declared.Outcome.the-variants.{Done, NotABlock, CheckFails, WrongFig, WrongField, WrongValue, EmptyStart, NotHeld, ShortBuffer, WrongTable, NotASheet, NotShown, TooMuch, TooManyPieces, BadCode}
 use Rattle.rules.specs.Outcomes.{verdict, noBlock}
 use Rattle.rules.proofs.LinkageLaws.{Refusal, full-refusal, refused-not-done}
 use Rattle.rules.specs.declared.Note.{Note}
@@ -356,6 +356,9 @@ done-is ShortBuffer e = absurd (false≢true e)
 done-is WrongTable e = absurd (false≢true e)
 done-is NotASheet e = absurd (false≢true e)
 done-is NotShown e = absurd (false≢true e)
+done-is TooMuch e = absurd (false≢true e)
+done-is TooManyPieces e = absurd (false≢true e)
+done-is BadCode e = absurd (false≢true e)
 
 -- a judged block has at most 14 spots
 pub judged-few : (fib : List ℕ) (r : Judged) → JudgedAs fib (verdict fib) r → r .spots .count ≤ 14

@@ -7,7 +7,7 @@ use lib.ListN.{length, set, replicate}
 use lib.Dec.{ltb}
 use Rattle.rules.specs.Arrays.{padded}
 use Rattle.rules.specs.declared.Outcome.{Outcome}
-use Rattle.rules.specs.declared.Outcome.the-variants.{Done, NotABlock, CheckFails, WrongFig, WrongField, WrongValue, EmptyStart, NotHeld, ShortBuffer, WrongTable, NotASheet, NotShown}
+use Rattle.rules.specs.declared.Outcome.the-variants.{Done, NotABlock, CheckFails, WrongFig, WrongField, WrongValue, EmptyStart, NotHeld, ShortBuffer, WrongTable, NotASheet, NotShown, TooMuch, TooManyPieces, BadCode}
 use Rattle.rules.specs.declared.Note.{Note}
 use Rattle.rules.specs.declared.Note.the-variants.{Opened, ShownAndOpened, Added, NoOpenList, Full, TooLong, StateOnly, UnknownKey}
 use Rattle.rules.specs.Family.{onHeld}
@@ -81,3 +81,6 @@ isDone ShortBuffer = false
 isDone WrongTable = false
 isDone NotASheet = false
 isDone NotShown = false
+isDone TooMuch = false
+isDone TooManyPieces = false
+isDone BadCode = false

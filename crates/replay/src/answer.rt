@@ -29,6 +29,9 @@ pub(crate) fn outcome_number(outcome: Outcome) -> usize
         Outcome::WrongTable => 9,
         Outcome::NotASheet => 10,
         Outcome::NotShown => 11,
+        Outcome::TooMuch => 12,
+        Outcome::TooManyPieces => 13,
+        Outcome::BadCode => 14,
     }
 }
 

@@ -7,7 +7,7 @@ use mathlib.Core.Option.{Option, none, some}
 use lib.ListN.{length, take, drop}
 use lib.Dec.{ltb, eqb}
 use Rattle.rules.specs.declared.Outcome.{Outcome}
-use Rattle.rules.specs.declared.Outcome.the-variants.{Done, NotABlock, CheckFails, WrongFig, WrongField, WrongValue, EmptyStart, NotHeld, ShortBuffer, WrongTable, NotASheet, NotShown}
+use Rattle.rules.specs.declared.Outcome.the-variants.{Done, NotABlock, CheckFails, WrongFig, WrongField, WrongValue, EmptyStart, NotHeld, ShortBuffer, WrongTable, NotASheet, NotShown, TooMuch, TooManyPieces, BadCode}
 use Rattle.rules.specs.declared.Note.{Note}
 use Rattle.rules.specs.declared.Note.the-variants.{Opened, ShownAndOpened, Added, NoOpenList, Full, TooLong, StateOnly, UnknownKey}
 use Rattle.rules.specs.Block.{Walk, whole, broken, Fig, figs, checkHolds}
@@ -29,6 +29,9 @@ numberOf ShortBuffer = 8
 numberOf WrongTable = 9
 numberOf NotASheet = 10
 numberOf NotShown = 11
+numberOf TooMuch = 12
+numberOf TooManyPieces = 13
+numberOf BadCode = 14
 
 -- the number of a note, in the order in which document 01 names them
 unfoldable pub noteNumber : Note → ℕ

@@ -1,7 +1,8 @@
 // The rules of document 01 as definitions, on plain data: see specs/, one module for each section of
 // the document and in its order, and proofs/ for the laws above them. The only code here are the two
 // enums that an answer is made of, so that the definitions and every program speak of the same ones.
-// Their numbers in document 01 are numberOf and noteNumber of specs/Outcomes.antt.
+// Their numbers in document 01 are numberOf and noteNumber of specs/Outcomes.antt. The outcomes above 11 are document 02's and wait for
+// their requests.
 
 // The numbered outcomes (document 01, Numbered outcomes), in their order.
 pub enum Outcome {
@@ -29,6 +30,12 @@ pub enum Outcome {
     NotASheet,
     // 11: the key is held and its set not shown
     NotShown,
+    // 12: a recording of more than 4,096 blocks or with a rest, or too many codes (R-10, R-14)
+    TooMuch,
+    // 13: more pieces than can be sent (R-13)
+    TooManyPieces,
+    // 14: no location code (R-14)
+    BadCode,
 }
 
 // What one field of a taken block did (document 01, Collecting).

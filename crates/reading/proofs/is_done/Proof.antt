@@ -5,7 +5,7 @@ use mathlib.Core.List.{[], _∷_}
 use types.Run.{OneOf, miss}
 use denote.Enum.Declared.{tagOf}
 use Rattle.rules.specs.declared.Outcome.{Outcome}
-use Rattle.rules.specs.declared.Outcome.the-variants.{Done, NotABlock, CheckFails, WrongFig, WrongField, WrongValue, EmptyStart, NotHeld, ShortBuffer, WrongTable, NotASheet, NotShown}
+use Rattle.rules.specs.declared.Outcome.the-variants.{Done, NotABlock, CheckFails, WrongFig, WrongField, WrongValue, EmptyStart, NotHeld, ShortBuffer, WrongTable, NotASheet, NotShown, TooMuch, TooManyPieces, BadCode}
 use Rattle.rules.proofs.Outcome.{the-type}
 use Rattle.reading.specs.Steps.{isDone}
 use borrow.Author.Needs.{needs}
@@ -20,9 +20,9 @@ enum-told c = search needs
 
 -- src/lib.rt:128:1
 -- every other outcome is no 0
-other : (o : Outcome) → OneOf (1 ∷ 2 ∷ 3 ∷ 4 ∷ 5 ∷ 6 ∷ 7 ∷ 8 ∷ 9 ∷ 10 ∷ 11 ∷ []) (tagOf the-type o) → false ≡ isDone o
+other : (o : Outcome) → OneOf (1 ∷ 2 ∷ 3 ∷ 4 ∷ 5 ∷ 6 ∷ 7 ∷ 8 ∷ 9 ∷ 10 ∷ 11 ∷ 12 ∷ 13 ∷ 14 ∷ []) (tagOf the-type o) → false ≡ isDone o
 unfolding isDone
-other Done h = absurd (miss (1 ∷ 2 ∷ 3 ∷ 4 ∷ 5 ∷ 6 ∷ 7 ∷ 8 ∷ 9 ∷ 10 ∷ 11 ∷ []) 0 tt h)
+other Done h = absurd (miss (1 ∷ 2 ∷ 3 ∷ 4 ∷ 5 ∷ 6 ∷ 7 ∷ 8 ∷ 9 ∷ 10 ∷ 11 ∷ 12 ∷ 13 ∷ 14 ∷ []) 0 tt h)
 other NotABlock h = refl
 other CheckFails h = refl
 other WrongFig h = refl
@@ -34,6 +34,9 @@ other ShortBuffer h = refl
 other WrongTable h = refl
 other NotASheet h = refl
 other NotShown h = refl
+other TooMuch h = refl
+other TooManyPieces h = refl
+other BadCode h = refl
 
 returns : tie.Need-returns
 unfolding isDone
