@@ -6,7 +6,7 @@ Its table of public functions has a row for every `pub fn` of the libraries; eac
 and one whose edit changes a definition, or says why there is none; and every edit that there is stands in that table, in
 the one of document 01's wrong programs or in that of the command. Every old text of an edit stands exactly once where it says, and every statement that is copied
 stands so in the source. Every name of a definition, a theorem or a function that STATEMENTS.md or RULES.md sets apart is declared in
-some crate. Exit status 1 otherwise.
+some crate, and crates.txt names no crate before it is listed. Exit status 1 otherwise.
 """
 
 import re
@@ -72,6 +72,15 @@ def quotes(text):
         yield path, re.sub(r"^    ", "", part.strip("\n"), flags=re.M)
 
 
+def misplaced():
+    """The crates that crates.txt names before they are listed."""
+    lines = [line.split(":") for line in (ROOT / "crates.txt").read_text().splitlines() if not line.startswith("#")]
+    ours, seen = {name for name, _ in lines}, set()
+    for name, uses in lines:
+        yield from ("%s uses %s, which comes later" % (name, use) for use in uses.split() if use in ours - seen)
+        seen.add(name)
+
+
 def declared():
     """Every name that some crate declares: definitions, laws, constructors and fields, functions and types."""
     names = set()
@@ -116,6 +125,7 @@ def main():
     wrong += ["%s: %s: an edit that STATEMENTS.md does not name" % key for key in known if key not in used]
     copied = list(quotes(text))
     wrong += ["%s: not there as copied: %s" % (path, part.splitlines()[0]) for path, part in copied if part not in (ROOT / path).read_text()]
+    wrong += ["crates.txt: " + line for line in misplaced()]
     names = declared() | {name for _, name in known} | {path.name for path in ROOT.glob("crates/*")}
     for page in ("docs/STATEMENTS.md", "docs/RULES.md"):
         wrong += ["%s: nothing is called %s" % (page, word) for word in sorted(set(cited((ROOT / page).read_text()))) if word not in names]
