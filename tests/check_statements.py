@@ -96,10 +96,10 @@ OTHERS = set("""linkage listing replay rules promises input min take Counts ensu
 
 
 def cited(text):
-    """The names that a page sets apart: single words in backquotes, without those of paths and of the copied source."""
+    """The names that a page sets apart: single words in backquotes, of two letters or more, without those of paths and of the copied source."""
     for word in re.findall(r"`([^`\n ]+)`", re.sub(r"^    .*$", "", text, flags=re.M)):
         word = word.rsplit("::", 1)[-1]
-        if re.fullmatch(r"[A-Za-z][\w?'-]*", word) and word not in OTHERS:
+        if re.fullmatch(r"[A-Za-z][\w?'-]+", word) and word not in OTHERS:
             yield word
 
 

@@ -1,0 +1,51 @@
+-- A caller has exactly what the rules say of the blocks and forgettings so far (document 00, demand 2), said of calls. In order: from any
+-- table that meets the table rules; from the empty one; that there are such calls.
+use mathlib.Core.Path.{_≡_, refl, ap₂}
+use mathlib.Core.List.{List, [], _∷_}
+use Rattle.rules.specs.Collecting.{Content}
+use Rattle.rules.specs.Outcomes.{readBlock}
+use Rattle.rules.specs.Demand3.{Operation, block, forgetting, afterOne}
+use Rattle.rules.proofs.Basics.{Every}
+use Rattle.rules.proofs.TableRules.{meets-nil}
+use Rattle.table.specs.declared.Table.{Table}
+use Rattle.table.specs.Stored.{storeTable, stored}
+use Rattle.table.specs.Answers.{forgottenAs}
+use Rattle.reading.specs.Runs.{runAs}
+use Rattle.promises.proofs.Contracts.{ReadsBlock, Forgets}
+use Rattle.promises.proofs.Answers.{Stores}
+use Rattle.promises.proofs.Calls.{Reply, Calls, ended, reads, forgets, OfBytes, afterAll, repliesTo}
+use Rattle.promises.proofs.CallLaws.{read-call, forget-call}
+
+-- From a table that stores a content, calls end in the table that stores what the rules make of that content (which meets the table
+-- rules again), and on the way they are answered what the rules say.
+pub calls-hold : {t u : Table} {ops : List Operation} {rs : List Reply} (c : Content) → Stores t c → Every OfBytes ops → Calls t ops rs u
+    → Stores u (afterAll c ops) × (rs ≡ repliesTo c ops)
+unfolding afterAll repliesTo
+calls-hold c s b ended = (s, refl)
+calls-hold c s b (reads {fib} r x xs) =
+    let one = read-call c fib r s (b .0) x in
+    let rest = calls-hold (afterOne c (block fib)) (one .0) (b .1) xs in
+    (rest .0, ap₂ _∷_ (one .1) (rest .1))
+calls-hold c s b (forgets {k} r x xs) =
+    let one = forget-call c k r s x in
+    let rest = calls-hold (afterOne c (forgetting k)) (one .0) (b .1) xs in
+    (rest .0, ap₂ _∷_ (one .1) (rest .1))
+
+-- From the table that holds nothing.
+pub calls-hold-from-empty : {u : Table} {ops : List Operation} {rs : List Reply} → Every OfBytes ops → Calls (storeTable []) ops rs u
+    → Stores u (afterAll [] ops) × (rs ≡ repliesTo [] ops)
+calls-hold-from-empty b xs = calls-hold [] (meets-nil, refl) b xs
+
+-- And there are such calls, whatever the operations: the contracts admit this run and, by the above, no other.
+pub calls-exist : {t : Table} (c : Content) (ops : List Operation) → Stores t c → Every OfBytes ops
+    → Calls t ops (repliesTo c ops) (storeTable (afterAll c ops))
+unfolding afterAll repliesTo
+calls-exist c [] s b = rw (s .1) ended
+calls-exist {t} c (block fib ∷ os) s b =
+    let x : ReadsBlock t fib (runAs (readBlock c fib)) = stored c (s .0) (s .1) refl in
+    let one = read-call c fib (runAs (readBlock c fib)) s (b .0) x in
+    rw (← one .1) (reads (runAs (readBlock c fib)) x (calls-exist (afterOne c (block fib)) os (one .0) (b .1)))
+calls-exist {t} c (forgetting k ∷ os) s b =
+    let x : Forgets t k (forgottenAs k c) = stored c (s .0) (s .1) refl in
+    let one = forget-call c k (forgottenAs k c) s x in
+    rw (← one .1) (forgets (forgottenAs k c) x (calls-exist (afterOne c (forgetting k)) os (one .0) (b .1)))
