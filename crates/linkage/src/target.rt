@@ -14,12 +14,13 @@ use outputs::Output;
 ghost use Rattle.linkage.specs.Made.{Made};
 
 // Where the output goes: to an open file `fd`, or, where that is -1, into a file of its own, in place of an old one where `old`
-// is known. Its name is left in a buffer, `size` bytes. `good` is false where nothing can be written there, which has been said
-// then.
+// is known. Its name is left in a buffer, `size` bytes. `force` says that a file which comes to be there in the meantime may go.
+// `good` is false where nothing can be written there, which has been said then.
 pub(crate) struct Target {
     pub good: bool,
     pub fd: i32,
     pub old: Facts,
+    pub force: bool,
     pub size: usize,
 }
 
@@ -29,6 +30,7 @@ fn nowhere() -> Target {
         good: false,
         fd: -1,
         old: facts_of(-1),
+        force: false,
         size: 0,
     }
 }
@@ -39,6 +41,7 @@ fn directly(name: &[u8], fd: i32, path: &mut [u8]) -> Target {
         good: true,
         fd,
         old: facts_of(fd),
+        force: true,
         size: out::put_bytes(path, 0, name),
     }
 }
@@ -57,7 +60,7 @@ fn is_writable(folder: &[u8]) -> bool {
 }
 
 // A file of its own at the end of all links, whose folder can be written to. The path is left in a buffer.
-fn beside(name: &[u8], old: Facts, path: &mut [u8]) -> Target {
+fn beside(name: &[u8], old: Facts, force: bool, path: &mut [u8]) -> Target {
     let named = out::put_bytes(path, 0, name);
     let size = follow(path, named);
     if size == 0 {
@@ -73,8 +76,14 @@ fn beside(name: &[u8], old: Facts, path: &mut [u8]) -> Target {
         good: true,
         fd: -1,
         old,
+        force,
         size,
     }
+}
+
+// Says that a file is there, which was not to be overwritten.
+fn say_there(name: &[u8]) {
+    say(b"", name, b" is there already: -f overwrites it");
 }
 
 // What is there already, open for writing: a regular file is replaced where that is allowed, anything else written to.
@@ -85,10 +94,10 @@ fn onto(name: &[u8], fd: i32, force: bool, path: &mut [u8]) -> Target {
     }
     libc::close(fd);
     if !force {
-        say(b"", name, b" is there already: -f overwrites it");
+        say_there(name);
         return nowhere();
     }
-    beside(name, old, path)
+    beside(name, old, force, path)
 }
 
 // Where an output of this name goes.
@@ -106,7 +115,7 @@ pub(crate) fn aim(name: &[u8], standard: bool, force: bool, path: &mut [u8]) -> 
     }
     let error = os::errno();
     if error == libc::ENOENT {
-        return beside(name, facts_of(-1), path);
+        return beside(name, facts_of(-1), force, path);
     }
     if error == libc::EISDIR {
         say(b"a folder, not a file: ", name, b"");
@@ -177,33 +186,58 @@ fn keep_mode(fd: i32, old: Facts) -> bool {
     libc::fchmod(fd, old.mode) == 0
 }
 
+// Waits until a file is on its disk. A file system that has no such thing says EINVAL.
+fn settle(fd: i32) -> bool {
+    if libc::fsync(fd) == 0 {
+        return true;
+    }
+    os::errno() == libc::EINVAL
+}
+
 // Fills a new file: every byte written, its mode set, all of it on the disk. It is closed in any case.
 fn fill_part(fd: i32, old: Facts, bytes: &[u8]) -> bool {
-    if io::write_all(fd, bytes) && keep_mode(fd, old) && libc::fsync(fd) == 0 {
+    if io::write_all(fd, bytes) && keep_mode(fd, old) && settle(fd) {
         return libc::close(fd) == 0;
     }
     libc::close(fd);
     false
 }
 
+// Gives a new file the name of its place, unless a file that is not to be overwritten has come to be there. Says why it could not.
+fn put_in_place(part: &[u8], path: &[u8], force: bool) -> bool {
+    if !force {
+        if libc::access(&ended(path), libc::F_OK) == 0 {
+            say_there(path);
+            return false;
+        }
+    }
+    if os::rename(part, path) == 0 {
+        return true;
+    }
+    say_failed(b"cannot write ", path);
+    false
+}
+
 // Writes a file of its own: into a new file beside it, which takes its name when it is whole. Where anything fails the new file
 // goes, and the old one is as it was.
-fn replace(path: &[u8], old: Facts, bytes: &[u8]) -> bool {
+fn replace(path: &[u8], old: Facts, force: bool, bytes: &[u8]) -> bool {
     let mut part = io::buffer();
     let made = make_part(path, &mut part);
     let name = front(&part, made.size);
     if made.fd < 0 {
-        say_failed(b"cannot write ", name);
+        say_failed(b"cannot make a new file beside ", path);
         return false;
     }
-    if fill_part(made.fd, old, bytes) {
-        if os::rename(name, path) == 0 {
-            return true;
-        }
+    if !fill_part(made.fd, old, bytes) {
+        say_failed(b"cannot write ", path);
+        os::unlink(name);
+        return false;
     }
-    say_failed(b"cannot write ", path);
-    os::unlink(name);
-    false
+    if !put_in_place(name, path, force) {
+        os::unlink(name);
+        return false;
+    }
+    true
 }
 
 // Writes to an open file and closes it.
@@ -227,5 +261,5 @@ pub(crate) fn deliver(asked: Output, target: Target, path: &[u8], bytes: &[u8]) 
         return write_directly(name, target.fd, bytes);
     }
     let old = target.old;
-    replace(name, old, bytes)
+    replace(name, old, target.force, bytes)
 }
