@@ -3,7 +3,7 @@
     python3 tests/check_statements.py
 
 Its table of public functions has a row for every `pub fn` of the libraries; each names at least two wrong programs whose edits change code
-and one whose edit changes a definition, or says why there is none; and every edit that there is stands in that table, in
+and one whose edit changes a definition, or says why there is none, and at least one of each stands in the gate; and every edit that there is stands in that table, in
 the one of document 01's wrong programs or in that of the command. Every old text of an edit stands exactly once where it says, and every statement that is copied
 stands so in the source. Every name of a definition, a theorem or a function that STATEMENTS.md or RULES.md sets apart is declared in
 some crate, and crates.txt names no crate before it is listed. Exit status 1 otherwise.
@@ -116,6 +116,8 @@ def main():
             used.update(names)
             wrong += ["%s: %s: no edit %s: %s" % (crate, name, *key) for key in names if key not in known]
             good = [key for key in names if key in known and kind in known[key][0]]
+            if good and not any((ROOT / "crates" / owner / "must-fail" / (edit + ".edit")).exists() for owner, edit in good):
+                wrong.append("%s: %s has no edit of %s in the gate" % (crate, name, kind))
             if len(good) < least and not cell.startswith("none: "):
                 wrong.append("%s: %s names %d edits of %s" % (crate, name, len(good), kind))
     for _, where in rows(text, "Wrong programs that document 01 lists") + rows(text, "The command"):

@@ -12,8 +12,8 @@ use lib.Dec.{eqb}
 use lib.Seq.{slice, length-slice, take-append-add, sets-eq}
 use Rattle.rules.specs.Block.{bit, checkOf}
 use Rattle.rules.specs.Collecting.{keyWidth}
-use Rattle.rules.specs.Air.{allBytes, fieldBytes, figBytes, blockOf}
-use Rattle.rules.proofs.AirBlock.{all-length, fig-length}
+use Rattle.pieces.specs.Air.{allBytes, fieldBytes, figBytes, blockOf}
+use Rattle.pieces.proofs.BlockBack.{all-length, fig-length}
 use Rattle.out.specs.Put.{Puts}
 use Rattle.out.proofs.Runs.{puts-length, puts-then}
 use Rattle.out.proofs.Answers.{sets-front}

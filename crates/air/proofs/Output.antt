@@ -11,20 +11,23 @@ use borrow.Author.Tests.{eqb-true, eqb-false}
 use Rattle.rules.specs.declared.Outcome.the-variants.{Done, ShortBuffer, WrongTable}
 use Rattle.rules.specs.Field.{Pair}
 use Rattle.rules.specs.Collecting.{IdSet, Content, meets, keyWidth}
-use Rattle.rules.specs.Air.{Piece, pieceMost, cut, deadLink, pieces, figBytes, blockOf, blocksOf, setBlocks, allBlocks, air, writtenTo}
+use Rattle.pieces.specs.Air.{Piece, pieceMost, cut, deadLink, pieces, figBytes, blockOf, blocksOf, setBlocks, allBlocks, air}
 use Rattle.rules.proofs.Basics.{cases-bool}
-use Rattle.rules.proofs.AirReadBack.{blocks-length}
+use Rattle.pieces.proofs.ReadBack.{blocks-length}
 use Rattle.rules.proofs.TableRules.{table-rules}
 use Rattle.lists.specs.declared.IdList.{IdList}
 use Rattle.lists.specs.Stored.{paired, pairsIn, Holds}
 use Rattle.lists.proofs.StoredLaws.{holds-facts}
+use Rattle.sets.specs.declared.Sets.{Sets}
 use Rattle.table.specs.declared.Table.{Table}
-use Rattle.table.specs.Stored.{storeTable, past, Stored, Given, stored, notStored}
-use Rattle.table.specs.Shown.{setIn, shownAs, setsFrom, setsIn}
-use Rattle.table.proofs.ShownLaws.{shownAt, sets-skip, sets-next, sets-end, sets-stored}
+use Rattle.table.specs.Stored.{Stored, stored, notStored}
+use Rattle.table.proofs.GivenLaws.{sets-are}
+use Rattle.sets.specs.Stored.{storeSets, past}
+use Rattle.sets.specs.Shown.{setIn, shownAs, setsFrom, setsIn}
+use Rattle.sets.proofs.ShownLaws.{shownAt, sets-skip, sets-next, sets-end, sets-stored}
 use Rattle.out.specs.declared.Written.{Written}
 use Rattle.out.specs.Put.{Puts}
-use Rattle.out.specs.Answer.{writtenAs}
+use Rattle.out.specs.Answer.{writtenAs, Outputs}
 use Rattle.out.proofs.Runs.{puts-as}
 use Rattle.out.proofs.Answers.{written-short, written-done}
 
@@ -64,7 +67,7 @@ none-blocks : (k : ℕ) (on : Bool) (l : IdList) → l .len ≡ 0 → l .named �
 unfolding setBlocks shownAs pieces cut deadLink blocksOf
 none-blocks k on l z u = ap (λ (s : IdSet). setBlocks (record { key = k; on = on; set = s })) (none-in l z u)
 
-module _ (t : Table) (i n : ℕ) where
+module _ (t : Sets) (i n : ℕ) where
   pub blocks-next : Holds (getD (t .keys) i 0) (getD (t .shown) i past) → i < n
       → allBlocks (setsFrom t i (n - i)) ≡ setBlocks (shownAt t i) ++ allBlocks (setsFrom t (i + 1) (n - (i + 1)))
   unfolding allBlocks
@@ -81,39 +84,34 @@ module _ (t : Table) (i n : ℕ) where
   blocks-end h = ap allBlocks (sets-end t i n h)
 
 -- from the first place on
-pub blocks-all : (t : Table) (n : ℕ) → allBlocks (setsFrom t 0 (n - 0)) ≡ allBlocks (setsFrom t 0 n)
+pub blocks-all : (t : Sets) (n : ℕ) → allBlocks (setsFrom t 0 (n - 0)) ≡ allBlocks (setsFrom t 0 n)
 blocks-all t n =
     let e : n - 0 ≡ n = omega arith in
     ap (λ (k : ℕ). allBlocks (setsFrom t 0 k)) e
 
 -- those of a stored table are what its content shows
-pub air-of : (t : Table) (c : Content) → meets c ≡ true → t ≡ storeTable c → allBlocks (setsFrom t 0 (t .count)) ≡ air c
-unfolding setsIn storeTable air
+pub air-of : (t : Sets) (c : Content) → meets c ≡ true → t ≡ storeSets (c .sets) → allBlocks (setsFrom t 0 (t .count)) ≡ air c
+unfolding setsIn storeSets air
 air-of t c m e =
-    let k : t .count ≡ min (t .count) 32 = omega (arith, ap (λ (x : Table). x .count) e, table-rules c .0 m .short) in
-    ap (λ (n : ℕ). allBlocks (setsFrom t 0 n)) k ∙ ap allBlocks (ap setsIn e ∙ sets-stored c m)
+    let k : t .count ≡ min (t .count) 32 = omega (arith, ap (λ (x : Sets). x .count) e, table-rules (c .sets) .0 m .short) in
+    ap (λ (n : ℕ). allBlocks (setsFrom t 0 n)) k ∙ ap allBlocks (ap setsIn e ∙ sets-stored (c .sets) m)
 
 -- ---- the answer
 
--- what write_air's contract says of a table, the buffer before, the answer and the buffer after: its proof answers in these words
-abbrev pub WritesAir : Table → List ℕ → Written → List ℕ → Type 0
-WritesAir t old r new =
-    Given t (λ c. writtenAs r new ≡ writtenTo (air c) old) (writtenAs r new ≡ record { outcome = WrongTable; size = 0; buffer = old })
-
 -- a table that is none
-pub answer-wrong : (t : Table) (old : List ℕ) → (Stored t → ⊥) → WritesAir t old (record { outcome = WrongTable; size = 0 }) old
+pub answer-wrong : (t : Table) (old : List ℕ) → (Stored t → ⊥) → Outputs air t old (record { outcome = WrongTable; size = 0 }) old
 unfolding writtenAs
 answer-wrong t old n = notStored n refl
 
 -- a buffer that is too short, and one that is not
-module _ (t : Table) (s : Stored t) (old : List ℕ) (n : ℕ) (count : 32 * n ≡ length (allBlocks (setsFrom t 0 (t .count)))) where
-  pub answer-short : length old < 32 * n → WritesAir t old (record { outcome = ShortBuffer; size = 0 }) old
+module _ (t : Table) (s : Stored t) (old : List ℕ) (n : ℕ) (count : 32 * n ≡ length (allBlocks (setsFrom (t .sets) 0 (t .sets .count)))) where
+  pub answer-short : length old < 32 * n → Outputs air t old (record { outcome = ShortBuffer; size = 0 }) old
   unfolding Stored
-  answer-short h = stored (s .0) (s .1) (s .2) (written-short (air (s .0)) old (omega (arith, ap length (air-of t (s .0) (s .1) (s .2)))))
+  answer-short h = stored (s .0) (s .1) (s .2) (written-short (air (s .0)) old (omega (arith, ap length (air-of (t .sets) (s .0) (s .1) (sets-are t (s .0) (s .1) (s .2))))))
 
-  pub answer-done : (new : List ℕ) (size : ℕ) → 32 * n ≤ length old → Puts old 0 (allBlocks (setsFrom t 0 (t .count))) new size
-      → WritesAir t old (record { outcome = Done; size = size }) new
+  pub answer-done : (new : List ℕ) (size : ℕ) → 32 * n ≤ length old → Puts old 0 (allBlocks (setsFrom (t .sets) 0 (t .sets .count))) new size
+      → Outputs air t old (record { outcome = Done; size = size }) new
   unfolding Stored
   answer-done new size h p =
-      let e = air-of t (s .0) (s .1) (s .2) in
+      let e = air-of (t .sets) (s .0) (s .1) (sets-are t (s .0) (s .1) (s .2)) in
       stored (s .0) (s .1) (s .2) (written-done (omega (arith, ap length e)) (puts-as e p))

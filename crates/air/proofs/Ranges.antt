@@ -12,10 +12,9 @@ use lib.ListN.{length, getD, take, drop, length-append, length-take, length-drop
 use lib.Seq.{slice, drop-length, take-nil, drop-cons, drop-drop, getD-take}
 use lib.Dec.{ltb, eqb}
 use borrow.Author.Tests.{eq-eqb, ne-eqb, lt-ltb, ltb-true, ltb-false}
-use Rattle.rules.specs.Field.{Pair, pair}
+use Rattle.rules.specs.Field.{Pair, pair, numberIn, kindIn}
 use Rattle.rules.specs.Collecting.{pairsMeet, kindNamed}
-use Rattle.rules.specs.Outcomes.{numberIn, kindIn}
-use Rattle.rules.specs.Air.{Piece, goesOn, pieceWith, completed, chop, cut}
+use Rattle.pieces.specs.Air.{Piece, goesOn, pieceWith, completed, chop, cut}
 use Rattle.rules.proofs.Basics.{cases-bool, and-left, and-right, and-both, true-false}
 use Rattle.rules.proofs.TableRules.{kind-small}
 use Rattle.air.specs.declared.Part.{Part}

@@ -9,17 +9,17 @@ use lib.ListN.{length, getD, take, drop, length-take, length-append}
 use lib.Seq.{slice, slice-empty, take-take}
 use lib.Dec.{eqb}
 use Rattle.rules.specs.Block.{bit}
-use Rattle.rules.specs.Field.{Pair, rds, drm}
+use Rattle.rules.specs.Field.{Pair, rds, drm, numberIn, kindIn}
 use Rattle.rules.specs.Collecting.{IdSet, keyWidth}
-use Rattle.rules.specs.Outcomes.{numberIn, kindIn}
-use Rattle.rules.specs.Air.{cut, hasKind, deadLink, pieces, pieceMost}
+use Rattle.lists.specs.Kinds.{hasKind}
+use Rattle.pieces.specs.Air.{cut, deadLink, pieces, pieceMost}
 use Rattle.rules.proofs.Basics.{cases-bool}
-use Rattle.rules.proofs.AirPieces.{most-room}
+use Rattle.pieces.proofs.Cutting.{most-room}
 use Rattle.lists.specs.declared.IdList.{IdList}
 use Rattle.lists.specs.Stored.{Holds}
 use Rattle.lists.proofs.Pairs.{length-pairs-in}
 use Rattle.lists.proofs.StoredLaws.{Facts, holds-facts, kinds-of-pairs, numbers-of-pairs}
-use Rattle.table.specs.Shown.{setIn}
+use Rattle.sets.specs.Shown.{setIn}
 use Rattle.air.specs.declared.Part.{Part}
 use Rattle.air.specs.Parts.{partAt, pieceIn, Fitting}
 use Rattle.air.proofs.Ranges.{left, left-next, left-end, range-ahead, range-inside, range-few, range-kind, kinds-small}

@@ -7,7 +7,7 @@ use lib.ListN.{getD}
 use lib.Seq.{slice}
 use lib.Dec.{eqb}
 use Rattle.rules.specs.Collecting.{keyWidth}
-use Rattle.rules.specs.Air.{Piece, pieceMost}
+use Rattle.pieces.specs.Air.{Piece, pieceMost}
 use Rattle.air.specs.declared.Part.{Part}
 
 -- how many at the front are of a kind

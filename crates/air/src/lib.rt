@@ -5,20 +5,20 @@ ghost use mathlib.Core.Path.{_≡_};
 ghost use Prim.Native.Nat.{_+_, _*_, _/_, _%_, _^_, _≤_, _<_};
 ghost use lib.ListN.{length, take};
 ghost use lib.Seq.{slice};
-ghost use Rattle.rules.specs.declared.Outcome.the-variants.{WrongTable};
 ghost use Rattle.rules.specs.Block.{bit};
 ghost use Rattle.rules.specs.Collecting.{keyWidth};
-ghost use Rattle.rules.specs.Air.{pieceMost, cut, deadLink, pieces, bigBytes, allBytes, figBytes, blockOf, blocksOf, setBlocks, allBlocks, air, writtenTo};
+ghost use Rattle.pieces.specs.Air.{pieceMost, cut, deadLink, pieces, bigBytes, allBytes, figBytes, blockOf, blocksOf, setBlocks, allBlocks, air};
 ghost use Rattle.lists.specs.Stored.{Holds};
-ghost use Rattle.table.specs.Stored.{EachHolds, Given};
-ghost use Rattle.table.specs.Shown.{setIn, shownAs, setsFrom};
+ghost use Rattle.sets.specs.Stored.{EachHolds};
+ghost use Rattle.sets.specs.Shown.{setIn, shownAs, setsFrom};
 ghost use Rattle.out.specs.Put.{Puts};
-ghost use Rattle.out.specs.Answer.{writtenAs};
+ghost use Rattle.out.specs.Answer.{Outputs};
 ghost use Rattle.air.specs.Parts.{run, qualifierAt, partAt, pieceIn, Fitting};
 use lists::IdList;
 use lists::is_dead;
 use out::Written;
 use rules::Outcome;
+use sets::Sets;
 use table::Table;
 
 // A piece of a set: its identifiers are those at the places from `from` up to `to`. It is a start if it
@@ -275,31 +275,31 @@ fn put_set(out: &mut [u8], at: usize, key: u32, on: bool, list: IdList) -> usize
 
 // ---- a table
 
-// How many pieces the sets of a table's first entries are cut into.
-fn count_all(count: usize, table: Table) -> usize
-    requires { ⌜ (count ≤ 32) × EachHolds (table .keys) (table .shown) ⌝ }
-    ensures { λ r. ⌜ (32 * r ≡ length (allBlocks (setsFrom table 0 count))) × (r ≤ 4160) ⌝ }
+// How many pieces the sets of the first entries are cut into.
+fn count_all(count: usize, sets: Sets) -> usize
+    requires { ⌜ (count ≤ 32) × EachHolds (sets .keys) (sets .shown) ⌝ }
+    ensures { λ r. ⌜ (32 * r ≡ length (allBlocks (setsFrom sets 0 count))) × (r ≤ 4160) ⌝ }
 {
     let mut n: usize = 0;
     let mut i: usize = 0;
     while i < count {
-        let list = table.shown[i];
-        n += piece_count(list, table.keys[i]);
+        let list = sets.shown[i];
+        n += piece_count(list, sets.keys[i]);
         i += 1;
     }
     n
 }
 
 // The blocks of these sets at the front of a buffer, and the place after them.
-fn put_all(out: &mut [u8], count: usize, table: Table) -> usize
-    requires { ⌜ (count ≤ 32) × EachHolds (table .keys) (table .shown) ⌝ }
-    ensures { λ r. ⌜ Puts (now (out .entry)) 0 (allBlocks (setsFrom table 0 count)) (now (out .exit)) r ⌝ }
+fn put_all(out: &mut [u8], count: usize, sets: Sets) -> usize
+    requires { ⌜ (count ≤ 32) × EachHolds (sets .keys) (sets .shown) ⌝ }
+    ensures { λ r. ⌜ Puts (now (out .entry)) 0 (allBlocks (setsFrom sets 0 count)) (now (out .exit)) r ⌝ }
 {
     let mut p: usize = 0;
     let mut i: usize = 0;
     while i < count {
-        let set = table.shown[i];
-        p = put_set(out, p, table.keys[i], table.on[i], set);
+        let set = sets.shown[i];
+        p = put_set(out, p, sets.keys[i], sets.on[i], set);
         i += 1;
     }
     p
@@ -308,8 +308,7 @@ fn put_all(out: &mut [u8], count: usize, table: Table) -> usize
 // The shown sets of a table as whole blocks: 9; then 8 with nothing written; the buffer past the output
 // untouched.
 pub fn write_air(table: Table, out: &mut [u8]) -> Written
-    ensures { λ r. ⌜ Given table (λ c. writtenAs r (now (out .exit)) ≡ writtenTo (air c) (now (out .entry)))
-        (writtenAs r (now (out .exit)) ≡ record { outcome = WrongTable; size = 0; buffer = now (out .entry) }) ⌝ }
+    ensures { λ r. ⌜ Outputs air table (now (out .entry)) r (now (out .exit)) ⌝ }
 {
     if !table.meets() {
         return Written {
@@ -317,14 +316,15 @@ pub fn write_air(table: Table, out: &mut [u8]) -> Written
             size: 0,
         };
     }
-    let count = table.count;
-    if out.len() < 32 * count_all(count, table) {
+    let sets = table.sets;
+    let count = sets.count;
+    if out.len() < 32 * count_all(count, sets) {
         return Written {
             outcome: Outcome::ShortBuffer,
             size: 0,
         };
     }
-    let size = put_all(out, count, table);
+    let size = put_all(out, count, sets);
     Written {
         outcome: Outcome::Done,
         size,

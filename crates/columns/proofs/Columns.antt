@@ -10,8 +10,8 @@ use mathlib.Core.Option.{Option, none, some}
 use lib.Dec.{ltb, eqb}
 use borrow.Author.Tests.{eqb-true, ne-eqb}
 use Rattle.rules.specs.Field.{Pair, dab, rds, drm}
-use Rattle.rules.specs.Collecting.{IdSet, Held, Content, Shown, showing, shownSets, keyWidth, kindNamed, pairsMeet, ifThere, entryMeets, entriesMeet, meets}
-use Rattle.rules.specs.Air.{hasKind}
+use Rattle.rules.specs.Collecting.{IdSet, Held, Entries, Content, Shown, showing, shownSets, keyWidth, kindNamed, pairsMeet, ifThere, entryMeets, entriesMeet, meets}
+use Rattle.lists.specs.Kinds.{hasKind}
 use Rattle.rules.proofs.Basics.{cases-bool, and-left, and-right, Every, every-append}
 use Rattle.rules.proofs.TableRules.{set-rules, entry-rules, table-rules}
 use Rattle.columns.specs.Columns.{Cell, blank, code, dead, Row, rowOf, codeRows, deadRows, rowsOf, codeIn, codesIn, numbersOf, standsIn, cellsIn}
@@ -158,12 +158,12 @@ drm-shown e none rest m h = h
 drm-shown e (some l) rest m h =
     (drm-column (keyWidth (e .key)) (record { key = e .key; on = e .state; set = l }) (set-rules (e .key) l .0 m .pairs), h)
 
-drm-entries : (c : Content) → entriesMeet c ≡ true → Every DrmColumn (shownSets c)
+drm-entries : (c : Entries) → entriesMeet c ≡ true → Every DrmColumn (shownSets c)
 unfolding shownSets entriesMeet
 drm-entries [] m = tt
 drm-entries (e ∷ es) m =
     drm-shown e (e .shown) (shownSets es) (entry-rules e .0 (and-left (entryMeets e) (entriesMeet es) m) .shown) (drm-entries es (and-right (entryMeets e) (entriesMeet es) m))
 
 -- as the rules hold of every set that a table shows
-pub drm-columns : (c : Content) → meets c ≡ true → Every DrmColumn (shownSets c)
-drm-columns c m = drm-entries c (table-rules c .0 m .entries)
+pub drm-columns : (c : Content) → meets c ≡ true → Every DrmColumn (shownSets (c .sets))
+drm-columns c m = drm-entries (c .sets) (table-rules (c .sets) .0 m .entries)

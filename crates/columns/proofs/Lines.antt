@@ -11,8 +11,8 @@ use lib.Dec.{ltb, eqb}
 use borrow.Author.Tests.{eqb-true, eqb-false, ne-eqb, lt-ltb, le-ltb}
 use Rattle.rules.specs.Field.{Pair, dab, rds, drm}
 use Rattle.rules.specs.Collecting.{Shown, keyWidth}
-use Rattle.rules.specs.Air.{hasKind}
-use Rattle.rules.specs.Listing.{stateText}
+use Rattle.lists.specs.Kinds.{hasKind}
+use Rattle.text.specs.Listing.{stateText}
 use Rattle.out.proofs.Digits.{length-hex}
 use Rattle.rules.proofs.Basics.{cases-bool}
 use Rattle.rules.proofs.TableRules.{width-most}

@@ -9,9 +9,9 @@ use mathlib.Core.Option.{Option, none, some}
 use lib.ListN.{length, length-append}
 use lib.Dec.{eqb}
 use Rattle.rules.specs.Field.{rds, drm}
-use Rattle.rules.specs.Collecting.{IdSet, Held, Content, Shown, showing, shownSets, keyWidth, ifThere, entryMeets, entriesMeet, meets}
-use Rattle.rules.specs.Air.{hasKind}
-use Rattle.rules.specs.Listing.{stateText}
+use Rattle.rules.specs.Collecting.{IdSet, Held, Entries, Content, Shown, showing, shownSets, keyWidth, ifThere, entryMeets, entriesMeet, meets}
+use Rattle.lists.specs.Kinds.{hasKind}
+use Rattle.text.specs.Listing.{stateText}
 use Rattle.rules.proofs.Basics.{and-left, and-right}
 use Rattle.rules.proofs.TableRules.{set-rules, entry-rules, table-rules, width-most}
 use Rattle.columns.specs.Columns.{rowsOf, filled, gap, lineText, rowsText, ruleText, headingText, setsText, columns}
@@ -59,7 +59,7 @@ next-most csv e (some l) rest n m h =
       set-most csv s (set-rules (e .key) l .0 m .short),
     )
 
-sets-most : (csv : Bool) (c : Content) → entriesMeet c ≡ true → length (setsText csv (shownSets c)) ≤ length c * cond csv 3120 6419
+sets-most : (csv : Bool) (c : Entries) → entriesMeet c ≡ true → length (setsText csv (shownSets c)) ≤ length c * cond csv 3120 6419
 unfolding shownSets entriesMeet setsText
 sets-most csv [] m = omega arith
 sets-most csv (e ∷ es) m =
@@ -71,8 +71,8 @@ sets-most csv (e ∷ es) m =
 pub columns-most : (csv : Bool) (c : Content) → meets c ≡ true → length (columns csv c) ≤ cond csv 99872 205506
 unfolding columns headingText lineText filled gap ruleText
 columns-most true c m =
-    let f = table-rules c .0 m in
-    omega (arith, f .short, sets-most true c (f .entries), length-append (headingText true ++ ruleText true) (setsText true (shownSets c)))
+    let f = table-rules (c .sets) .0 m in
+    omega (arith, f .short, sets-most true (c .sets) (f .entries), length-append (headingText true ++ ruleText true) (setsText true (shownSets (c .sets))))
 columns-most false c m =
-    let f = table-rules c .0 m in
-    omega (arith, f .short, sets-most false c (f .entries), length-append (headingText false ++ ruleText false) (setsText false (shownSets c)))
+    let f = table-rules (c .sets) .0 m in
+    omega (arith, f .short, sets-most false (c .sets) (f .entries), length-append (headingText false ++ ruleText false) (setsText false (shownSets (c .sets))))

@@ -7,8 +7,9 @@ use lib.ListN.{length, replicate}
 use lib.Dec.{eqb}
 use Rattle.rules.specs.Field.{Pair, dab, rds, drm}
 use Rattle.rules.specs.Collecting.{Content, Shown, shownSets, keyWidth}
-use Rattle.rules.specs.Air.{hasKind}
-use Rattle.rules.specs.Listing.{hexText, stateText}
+use Rattle.lists.specs.Kinds.{isDead}
+use Rattle.out.specs.Text.{hexText}
+use Rattle.text.specs.Listing.{stateText}
 
 -- ---- the rows of a set
 
@@ -44,7 +45,7 @@ codeRows s (p ∷ ps) = rowOf (s .key) (s .on) (p .kind) (code (2 * keyWidth (s 
 
 -- a row for a named kind without identifiers
 unfoldable pub deadRows : Shown → ℕ → Bool → List Row
-deadRows s kind named = cond (named && not (hasKind kind (s .set .items))) (rowOf (s .key) (s .on) kind dead ∷ []) []
+deadRows s kind named = cond (isDead kind named (s .set .items)) (rowOf (s .key) (s .on) kind dead ∷ []) []
 
 unfoldable pub rowsOf : Shown → List Row
 rowsOf s =
@@ -100,7 +101,7 @@ setsText csv (s ∷ ss) = rowsText csv (rowsOf s) ++ ruleText csv ++ setsText cs
 
 -- the heading, and the rows of each shown set in ascending key order
 unfoldable pub columns : Bool → Content → List ℕ
-columns csv t = headingText csv ++ ruleText csv ++ setsText csv (shownSets t)
+columns csv t = headingText csv ++ ruleText csv ++ setsText csv (shownSets (t .sets))
 
 -- ---- what the rows promise (proofs/Columns.antt)
 

@@ -11,20 +11,20 @@ use out::put;
 use out::put_bytes;
 use out::put_hex;
 use rules::Outcome;
+use sets::Sets;
 use table::Table;
 ghost use mathlib.Core.Path.{_≡_};
-ghost use mathlib.Core.Bool.{not, cond, _&&_};
+ghost use mathlib.Core.Bool.{cond};
 ghost use mathlib.Core.List.{[], _++_};
 ghost use Prim.Native.Nat.{_+_, _*_, _≤_};
 ghost use lib.ListN.{length, replicate};
 ghost use Rattle.rules.specs.Collecting.{keyWidth};
-ghost use Rattle.rules.specs.Air.{hasKind, writtenTo};
-ghost use Rattle.rules.specs.Listing.{stateText};
+ghost use Rattle.lists.specs.Kinds.{isDead};
+ghost use Rattle.text.specs.Listing.{stateText};
 ghost use Rattle.lists.specs.Stored.{pairsIn};
 ghost use Rattle.out.specs.Put.{Puts};
-ghost use Rattle.out.specs.Answer.{writtenAs};
-ghost use Rattle.table.specs.Stored.{Given};
-ghost use Rattle.table.specs.Shown.{shownAs, setsIn};
+ghost use Rattle.out.specs.Answer.{Outputs};
+ghost use Rattle.sets.specs.Shown.{shownAs, setsIn};
 ghost use Rattle.columns.specs.Columns.{blank, rowOf, codeRows, deadRows, rowsOf, filled, gap, codeText, cellText, rowText, rowsText, ruleText, headingText, setsText, columns};
 ghost use Rattle.columns.specs.Cells.{cellOf};
 
@@ -210,7 +210,7 @@ fn put_dead(
 
 // The size of that.
 fn dead_size(csv: bool, on: bool, kind: u8, named: bool, list: IdList) -> usize
-    ensures { λ r. ⌜ (r ≡ cond (named && not (hasKind kind (pairsIn (list .kinds) (list .numbers) (list .len)))) (cond csv (20 + length (stateText on)) 49) 0) × (r ≤ 49) ⌝ }
+    ensures { λ r. ⌜ (r ≡ cond (isDead kind named (pairsIn (list .kinds) (list .numbers) (list .len))) (cond csv (20 + length (stateText on)) 49) 0) × (r ≤ 49) ⌝ }
 {
     let len = list.len;
     if is_dead(kind, named, &list.numbers, &list.kinds, len) {
@@ -290,34 +290,34 @@ fn heading_size(csv: bool) -> usize
     if csv { 32 } else { 98 }
 }
 
-// The sets of a table at a place.
-fn put_sets(out: &mut [u8], at: usize, csv: bool, table: Table) -> usize
-    requires { ⌜ table .count ≤ 32 ⌝ }
-    ensures { λ r. ⌜ Puts (now (out .entry)) at (setsText csv (setsIn table)) (now (out .exit)) r ⌝ }
+// The sets at a place.
+fn put_sets(out: &mut [u8], at: usize, csv: bool, sets: Sets) -> usize
+    requires { ⌜ sets .count ≤ 32 ⌝ }
+    ensures { λ r. ⌜ Puts (now (out .entry)) at (setsText csv (setsIn sets)) (now (out .exit)) r ⌝ }
 {
     let mut p = cut_to(at, out.len());
     let mut k = 0;
-    while k < table.count {
-        let set = table.shown[k];
+    while k < sets.count {
+        let set = sets.shown[k];
         if set.len != 0 {
-            p = put_set(out, p, csv, table.keys[k], table.on[k], set);
+            p = put_set(out, p, csv, sets.keys[k], sets.on[k], set);
         }
         k += 1;
     }
     p
 }
 
-// The size of its sets.
-fn sets_size(csv: bool, table: Table) -> usize
-    requires { ⌜ table .count ≤ 32 ⌝ }
-    ensures { λ r. ⌜ (r ≡ length (setsText csv (setsIn table))) × (r ≤ 205408) ⌝ }
+// Their size.
+fn sets_size(csv: bool, sets: Sets) -> usize
+    requires { ⌜ sets .count ≤ 32 ⌝ }
+    ensures { λ r. ⌜ (r ≡ length (setsText csv (setsIn sets))) × (r ≤ 205408) ⌝ }
 {
     let mut size = 0;
     let mut i = 0;
-    while i < table.count {
-        let list = table.shown[i];
+    while i < sets.count {
+        let list = sets.shown[i];
         if list.len != 0 {
-            size += set_size(csv, table.keys[i], table.on[i], list);
+            size += set_size(csv, sets.keys[i], sets.on[i], list);
         }
         i += 1;
     }
@@ -326,9 +326,7 @@ fn sets_size(csv: bool, table: Table) -> usize
 
 // The columns of a table at the front of a buffer: 9, then 8, each with the buffer as it was.
 pub fn write_columns(table: Table, csv: bool, out: &mut [u8]) -> Written
-    ensures { λ r. ⌜ Given table
-        (λ c. writtenAs r (now (out .exit)) ≡ writtenTo (columns csv c) (now (out .entry)))
-        (writtenAs r (now (out .exit)) ≡ record { outcome = Outcome.WrongTable; size = 0; buffer = now (out .entry) }) ⌝ }
+    ensures { λ r. ⌜ Outputs (columns csv) table (now (out .entry)) r (now (out .exit)) ⌝ }
 {
     if !table.meets() {
         return Written {
@@ -336,7 +334,8 @@ pub fn write_columns(table: Table, csv: bool, out: &mut [u8]) -> Written
             size: 0,
         };
     }
-    let size = heading_size(csv) + sets_size(csv, table);
+    let sets = table.sets;
+    let size = heading_size(csv) + sets_size(csv, sets);
     if out.len() < size {
         return Written {
             outcome: Outcome::ShortBuffer,
@@ -344,7 +343,7 @@ pub fn write_columns(table: Table, csv: bool, out: &mut [u8]) -> Written
         };
     }
     let p = put_heading(out, 0, csv);
-    let end = put_sets(out, p, csv, table);
+    let end = put_sets(out, p, csv, sets);
     Written {
         outcome: Outcome::Done,
         size: end,

@@ -1,3 +1,4 @@
 -- The laws of the block check.
 pub mod Bits
+pub mod Sizes
 pub mod Register

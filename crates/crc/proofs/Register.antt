@@ -13,7 +13,7 @@ use lib.Seq.{drop-cons}
 use lib.Dec.{eqb}
 use lib.Bits.{bitXor, xor-shr, xor-lt}
 use Rattle.rules.specs.Block.{bits, number, generator, shift, shifts, register}
-use Rattle.rules.proofs.AirBlock.{shift-length}
+use Rattle.crc.proofs.Sizes.{shift-length}
 use Rattle.crc.proofs.Bits.{length-bits, bits-xor, bits-up, bits-up-by, number-bits, complement}
 
 -- ---- data bits added to the top

@@ -9,7 +9,7 @@ use mathlib.Core.List.{List, [], _∷_, map}
 use lib.ListN.{length, getD, take, drop, length-map, List·getD-map}
 use lib.Seq.{drop-drop}
 use lib.Dec.{eqb, eqb·suc-zero}
-use Rattle.rules.specs.Field.{Pair, pair, dab, bigEndian, identifiers, startPairs}
+use Rattle.rules.specs.Field.{Pair, pair, bigEndian, identifiers, startPairs}
 use Rattle.field.specs.FieldStep.{ofKind, pairOf}
 
 -- the i-th number is written by the w bytes after those of the i before it
@@ -21,25 +21,25 @@ identifiers-at w (suc n) zero bytes h = rw zero-mul
 identifiers-at w (suc n) (suc i) bytes h =
     rw (identifiers-at w n i (drop w bytes) (omega arith), drop-drop (i * w) w bytes, suc-mul i w, add-comm (i * w) w)
 
--- the pairs of a field, by whether it is a continuation, its qualifier and its numbers
-abbrev pub pairsBy : Bool → ℕ → List ℕ → List Pair
-pairsBy more q ns = cond more (map (pair q) ns) (startPairs dab q ns)
+-- the pairs of a field, by whether it is a continuation, the kind of a start's first, its qualifier and its numbers
+abbrev pub pairsBy : Bool → ℕ → ℕ → List ℕ → List Pair
+pairsBy more first q ns = cond more (map (pair q) ns) (startPairs first q ns)
 
-pub length-pairs : (more : Bool) (q : ℕ) (ns : List ℕ) → length (pairsBy more q ns) ≡ length ns
+pub length-pairs : (more : Bool) (first q : ℕ) (ns : List ℕ) → length (pairsBy more first q ns) ≡ length ns
 unfolding startPairs
-length-pairs true q ns = length-map ns (pair q)
-length-pairs false q [] = refl
-length-pairs false q (n ∷ ns) = ap suc (length-map ns (pair q))
+length-pairs true first q ns = length-map ns (pair q)
+length-pairs false first q [] = refl
+length-pairs false first q (n ∷ ns) = ap suc (length-map ns (pair q))
 
 -- the i-th pair: of the qualifier's kind, but for the first of a start
 pub pairs-at :
-    (more : Bool) (q i : ℕ) (ns : List ℕ) → i < length ns
-    → getD (pairsBy more q ns) i (pair q 0) ≡ pair (cond more q (cond (eqb i 0) dab q)) (getD ns i 0)
+    (more : Bool) (first q i : ℕ) (ns : List ℕ) → i < length ns
+    → getD (pairsBy more first q ns) i (pair q 0) ≡ pair (cond more q (cond (eqb i 0) first q)) (getD ns i 0)
 unfolding startPairs
-pairs-at true q i ns h = List·getD-map (pair q) ns i 0
-pairs-at false q i [] h = absurd (omega arith)
-pairs-at false q zero (n ∷ ns) h = refl
-pairs-at false q (suc i) (n ∷ ns) h = rw (eqb·suc-zero i) (List·getD-map (pair q) ns i 0)
+pairs-at true first q i ns h = List·getD-map (pair q) ns i 0
+pairs-at false first q i [] h = absurd (omega arith)
+pairs-at false first q zero (n ∷ ns) h = refl
+pairs-at false first q (suc i) (n ∷ ns) h = rw (eqb·suc-zero i) (List·getD-map (pair q) ns i 0)
 
 -- of the kinds that there are, an identifier keeps kind and number
 pub ofKind-pair : (k n : ℕ) → k < 4 → (k ≡ 2 → ⊥) → pairOf (ofKind k n) ≡ pair k n

@@ -118,21 +118,29 @@ module _ (body : List ℕ) (f : Field) where
 
 -- ---- its identifiers
 
--- the kind at an index is one that there is, where the qualifier is
+-- the kind of a start's first is one that there is, where the qualifier is
+first-range : (oe q : ℕ) → q < 4 → (q ≡ 2 → ⊥) → (firstKind oe q < 4) × (firstKind oe q ≡ 2 → ⊥)
+unfolding firstKind
+first-range oe q h not = omega arith
+
+-- and so is the kind at an index
 kindAt-range : (f : Field) (i : ℕ) → f .qualifier < 4 → (f .qualifier ≡ 2 → ⊥) → (kindAt f i < 4) × (kindAt f i ≡ 2 → ⊥)
 unfolding kindAt
 kindAt-range f i h not = go (eqb (f .cn) 1) (eqb i 0)
   where
-    go : (b d : Bool) → (cond b (f .qualifier) (cond d 0 (f .qualifier)) < 4) × (cond b (f .qualifier) (cond d 0 (f .qualifier)) ≡ 2 → ⊥)
+    first : ℕ
+    first = firstKind (f .oe) (f .qualifier)
+
+    go : (b d : Bool) → (cond b (f .qualifier) (cond d first (f .qualifier)) < 4) × (cond b (f .qualifier) (cond d first (f .qualifier)) ≡ 2 → ⊥)
     go true d = (h, not)
-    go false true = omega arith
+    go false true = first-range (f .oe) (f .qualifier) h not
     go false false = (h, not)
 
 module _ (body : List ℕ) (f : Field) where
   pub pairs-count : length (pairsOf (meaning body f)) ≡ f .count
-  unfolding pairsOf isContinuation firstKind meaning
+  unfolding pairsOf isContinuation meaning
   pairs-count =
-      length-pairs (eqb (f .cn) 1) (f .qualifier) (meaning body f .numbers)
+      length-pairs (eqb (f .cn) 1) (firstKind (f .oe) (f .qualifier)) (f .qualifier) (meaning body f .numbers)
       ∙ length-identifiers (width (f .pd) (f .ils)) (f .count) (drop (f .from) body)
 
   -- from the first on they are all, and past the last there is none
@@ -174,13 +182,13 @@ module _ (body : List ℕ) (f : Field) where
 
     -- the i-th pair of the field
     pub identifier-means : (f .qualifier ≡ 2 → ⊥) → pairOf (identifierAt body f i) ≡ getD (pairsOf (meaning body f)) i (pair (f .qualifier) 0)
-    unfolding pairsOf isContinuation firstKind kindAt meaning
+    unfolding pairsOf isContinuation kindAt meaning
     identifier-means not =
         let known = kindAt-range f i (r .qualifier) not in
         let ns = meaning body f .numbers in
         let there : i < length ns = omega (arith, length-identifiers (width (f .pd) (f .ils)) (f .count) (drop (f .from) body)) in
         ap pairOf identifier-there ∙ ofKind-pair _ _ (known .0) (known .1) ∙ ap (pair (kindAt f i)) number-means
-        ∙ sym (pairs-at (eqb (f .cn) 1) (f .qualifier) i ns there)
+        ∙ sym (pairs-at (eqb (f .cn) 1) (firstKind (f .oe) (f .qualifier)) (f .qualifier) i ns there)
 
     -- the pairs from the i-th on are the i-th identifier and the pairs after it
     pub pairs-step : (f .qualifier ≡ 2 → ⊥) → pairsFrom body f i ≡ pairOf (identifierAt body f i) ∷ pairsFrom body f (suc i)

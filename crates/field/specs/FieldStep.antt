@@ -10,7 +10,7 @@ use Rattle.field.specs.declared.Field.{Field}
 use Rattle.field.specs.declared.FieldStep.{FieldStep}
 use Rattle.field.specs.declared.FieldStep.the-variants.{Found, End, Wrong}
 use Rattle.rules.specs.Block.{Step, item, end, wrong}
-use Rattle.rules.specs.Field.{Field as FieldOf, Pair, dab, rds, drm, isLinking, width, listBytes, bigEndian, identifiers, pairsOf}
+use Rattle.rules.specs.Field.{Field as FieldOf, Pair, dab, rds, drm, isLinking, width, listBytes, bigEndian, identifiers, firstKind, pairsOf}
 
 -- a FIG of this type and body carries service linking
 unfoldable pub linking : ℕ → List ℕ → Bool
@@ -108,9 +108,9 @@ bytesAt (suc w) body place = getD body place 0 ∷ bytesAt w body (place + 1)
 unfoldable pub numberAt : ℕ → List ℕ → ℕ → ℕ
 numberAt w body place = bigEndian 0 (bytesAt w body place)
 
--- the kind of the i-th identifier: the first of a start is a DAB service, the others are of the qualifier's kind
+-- the kind of the i-th identifier: the first of a start is of its own, the others are of the qualifier's kind
 unfoldable pub kindAt : Field → ℕ → ℕ
-kindAt f i = cond (eqb (f .cn) 1) (f .qualifier) (cond (eqb i 0) dab (f .qualifier))
+kindAt f i = cond (eqb (f .cn) 1) (f .qualifier) (cond (eqb i 0) (firstKind (f .oe) (f .qualifier)) (f .qualifier))
 
 -- an identifier of a kind; a kind that there is not counts as DAB
 unfoldable pub ofKind : ℕ → ℕ → Identifier

@@ -4,7 +4,7 @@
 ghost use mathlib.Core.Path.{_≡_};
 ghost use Prim.Native.Nat.{_+_, _≤_, _<_, _^_};
 ghost use lib.ListN.{getD};
-ghost use Rattle.rules.specs.Field.{width};
+ghost use Rattle.rules.specs.Field.{width, firstKind};
 ghost use Rattle.field.specs.FieldStep.{
   linking,
   headOf,
@@ -222,7 +222,7 @@ impl Field {
         of_kind(self.kind_at(i), number_at(body, from + i * w, w))
     }
 
-    // The kind of the i-th identifier: the first of a start is a DAB service, whatever the qualifier.
+    // The kind of the i-th identifier: the first of a start is of its own, the others are of the qualifier's kind.
     fn kind_at(self, i: usize) -> u8
         ensures { λ r. ⌜ r ≡ kindAt self i ⌝ }
     {
@@ -230,10 +230,17 @@ impl Field {
             return self.qualifier;
         }
         if i == 0 {
-            return 0;
+            return first_kind(self.oe, self.qualifier);
         }
         self.qualifier
     }
+}
+
+// The kind of a start's first identifier: a DAB service, whatever its OE and qualifier.
+fn first_kind(oe: u8, qualifier: u8) -> u8
+    ensures { λ r. ⌜ r ≡ firstKind oe qualifier ⌝ }
+{
+    0
 }
 
 // The number that w bytes write from a place on, the highest byte first.

@@ -10,15 +10,15 @@ use lib.Seq.{length-take-le, take-append-le, drop-append-le, drop-drop}
 use lib.Dec.{eqb}
 use Rattle.io.specs.Counts.{Counts}
 use Rattle.rules.specs.Block.{checkHolds}
-use Rattle.rules.specs.Collecting.{Content, meets}
+use Rattle.rules.specs.Collecting.{Content, nothing}
 use Rattle.rules.specs.Outcomes.{readBlocks, readRecording, leftOver}
 use Rattle.rules.proofs.TableRules.{meets-nil}
 use Rattle.rules.proofs.LinkageLaws.{recording-keeps, recording-append, left-over-append}
 use Rattle.table.specs.declared.Table.{Table}
-use Rattle.table.specs.Stored.{storeTable, Stored, Given, stored, notStored}
+use Rattle.table.specs.Stored.{storeTable, Given}
+use Rattle.table.proofs.GivenLaws.{given-content}
 use Rattle.reading.specs.declared.Recorded.{Recorded}
 use Rattle.reading.specs.Runs.{recordedAs, unrecorded}
-use Rattle.sheet.proofs.Contents.{store-injective}
 use Rattle.input.specs.declared.Received.{Received}
 use Rattle.input.specs.declared.Turn.{Turn}
 use Rattle.input.specs.Reading.{someHolds, goodIn, Reading, ReadOn}
@@ -89,15 +89,8 @@ good-now before chunk r e h = rw e h
 
 -- ---- a recording
 
--- what a function that is given a table answers, where the content that the table stores is known
-pub given-content : {t : Table} {right : Content → Type 0} {otherwise : Type 0} (c : Content) → meets c ≡ true → t ≡ storeTable c
-    → Given t right otherwise → right c
-unfolding Stored
-given-content {right = right} c m s (stored d f p a) = subst right (store-injective d c f m (sym p ∙ s)) a
-given-content c m s (notStored n a) = absurd (n (c, m, s))
-
 -- nothing read yet
-pub reading-nothing : (t : Table) → t ≡ storeTable [] → Reading (record { table = t; rest = 0; size = 0; good = false; failed = false })
+pub reading-nothing : (t : Table) → t ≡ storeTable nothing → Reading (record { table = t; rest = 0; size = 0; good = false; failed = false })
 unfolding readRecording readBlocks leftOver goodIn someHolds
 reading-nothing t e = record { bytes = []; each = λ i. omega arith; size = refl; table = e; rest = refl; good = refl }
 
@@ -110,12 +103,12 @@ unfolding recordedAs
 reading-chunk before chunk read good failed r even each given g =
     let a = r .bytes in
     let whole : length a % 32 ≡ 0 = omega (arith, r .size) in
-    let left = given-content (readRecording [] a) (recording-keeps [] a (r .each) meets-nil) (r .table) given in
+    let left = given-content (readRecording nothing a) (recording-keeps nothing a (r .each) meets-nil) (r .table) given in
     record {
       bytes = a ++ chunk;
       each = bytes-append a chunk (r .each) each;
       size = omega (arith, r .size, length-append a chunk);
-      table = ap (λ (x : Recorded). x .table) left ∙ ap storeTable (sym (recording-append [] a chunk whole));
+      table = ap (λ (x : Recorded). x .table) left ∙ ap (λ (c : Content). storeTable c) (sym (recording-append nothing a chunk whole));
       rest = ap (λ (x : Recorded). x .rest) left ∙ sym (left-over-append a chunk whole);
       good = g ∙ ap (λ (b : Bool). b || goodIn chunk) (r .good) ∙ sym (good-append a chunk whole);
     }

@@ -2,9 +2,10 @@
 use Prim.Native.Nat.{ℕ, zero, suc, _/_, _%_, _≤_, _<_}
 use mathlib.Core.Path.{_≡_}
 use mathlib.Core.Bool.{Bool, true, false, _||_}
-use mathlib.Core.List.{List, []}
+use mathlib.Core.List.{List}
 use lib.ListN.{length, getD, take, drop}
 use Rattle.rules.specs.Block.{checkHolds}
+use Rattle.rules.specs.Collecting.{nothing}
 use Rattle.rules.specs.Outcomes.{readRecording, leftOver}
 use Rattle.table.specs.Stored.{storeTable}
 use Rattle.sheet.specs.Loading.{Loads}
@@ -27,7 +28,7 @@ pub record Reading (r : Received) : Type 0 where
   pub bytes : List ℕ
   pub each : (i : ℕ) → getD bytes i 0 < 256
   pub size : r .size ≡ length bytes
-  pub table : r .table ≡ storeTable (readRecording [] bytes)
+  pub table : r .table ≡ storeTable (readRecording nothing bytes)
   pub rest : r .rest ≡ leftOver bytes
   pub good : r .good ≡ goodIn bytes
 

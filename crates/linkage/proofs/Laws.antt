@@ -2,44 +2,39 @@
 use Prim.Native.Nat.{ℕ, _<_}
 use mathlib.Core.Path.{_≡_, ap, _∙_}
 use mathlib.Core.Bool.{true}
-use mathlib.Core.List.{List, []}
+use mathlib.Core.List.{List}
 use lib.ListN.{take, getD}
 use Rattle.rules.specs.declared.Outcome.the-variants.{Done}
-use Rattle.rules.specs.Collecting.{Content, meets}
+use Rattle.rules.specs.Collecting.{Content, nothing, meets}
 use Rattle.rules.specs.Outcomes.{numberOf, readRecording, leftOver}
 use Rattle.rules.proofs.TableRules.{meets-nil}
 use Rattle.rules.proofs.LinkageLaws.{recording-keeps}
-use Rattle.rules.proofs.SheetLaws.{load-meets}
+use Rattle.layout.proofs.Laws.{load-meets}
 use Rattle.table.specs.declared.Table.{Table}
 use Rattle.table.specs.Stored.{storeTable}
 use Rattle.out.specs.declared.Written.{Written}
+use Rattle.out.specs.Answer.{Outputs}
+use Rattle.out.proofs.Answers.{output-bytes}
 use Rattle.sheet.specs.declared.Loaded.{Loaded}
 use Rattle.sheet.specs.Loading.{Loads}
 use Rattle.outputs.specs.declared.Output.{Output}
 use Rattle.outputs.specs.Output.{outputOf}
 use Rattle.input.specs.declared.Received.{Received}
 use Rattle.input.specs.Reading.{Reading}
-use Rattle.promises.proofs.Contracts.{WritesOutput}
-use Rattle.promises.proofs.Writing.{write-output-answers}
-use Rattle.promises.proofs.Buffers.{write-bytes}
 use Rattle.linkage.specs.Made.{Made, ofRecording, ofSheet}
-
-module _ (asked : Output) (over : ℕ) (t : Table) (old : List ℕ) (w : Written) (new : List ℕ) where
-  written-of : WritesOutput asked t over old w new → w .outcome ≡ Done → (c : Content) → meets c ≡ true → t ≡ storeTable c
-      → take (w .size) new ≡ outputOf asked over c
-  unfolding numberOf
-  written-of h o = write-bytes (outputOf asked over) t old w new (write-output-answers asked t over old w new h) (ap numberOf o)
 
 -- a recording
 pub recorded-made : (asked : Output) (r : Received) (old : List ℕ) (w : Written) (new made : List ℕ) → Reading r
-    → WritesOutput asked (r .table) (r .rest) old w new → w .outcome ≡ Done → made ≡ take (w .size) new → Made asked made
+    → Outputs (outputOf asked (r .rest)) (r .table) old w new → w .outcome ≡ Done → made ≡ take (w .size) new → Made asked made
+unfolding numberOf
 recorded-made asked r old w new made a h o e =
     ofRecording (a .bytes)
-    (e ∙ written-of asked (r .rest) (r .table) old w new h o (readRecording [] (a .bytes)) (recording-keeps [] (a .bytes) (a .each) meets-nil) (a .table)
-    ∙ ap (λ (n : ℕ). outputOf asked n (readRecording [] (a .bytes))) (a .rest))
+    (e ∙ output-bytes (outputOf asked (r .rest)) (r .table) old w new h (ap numberOf o) (readRecording nothing (a .bytes)) (recording-keeps nothing (a .bytes) (a .each) meets-nil) (a .table)
+    ∙ ap (λ (n : ℕ). outputOf asked n (readRecording nothing (a .bytes))) (a .rest))
 
 -- a sheet
 pub loaded-made : (asked : Output) (bytes : List ℕ) (l : Loaded) (old : List ℕ) (w : Written) (new made : List ℕ) → Loads bytes l → l .outcome ≡ Done
-    → WritesOutput asked (l .table) 0 old w new → w .outcome ≡ Done → made ≡ take (w .size) new → Made asked made
+    → Outputs (outputOf asked 0) (l .table) old w new → w .outcome ≡ Done → made ≡ take (w .size) new → Made asked made
+unfolding numberOf
 loaded-made asked bytes l old w new made a d h o e =
-    ofSheet bytes (a .left) (rw d at (a .load)) (e ∙ written-of asked 0 (l .table) old w new h o (a .left) (load-meets (a .load)) (a .stored))
+    ofSheet bytes (a .left) (rw d at (a .load)) (e ∙ output-bytes (outputOf asked 0) (l .table) old w new h (ap numberOf o) (a .left) (load-meets (a .load)) (a .stored))

@@ -48,7 +48,8 @@ fn say_unwritten(outcome: Outcome) {
 
 // What is worth knowing of a recording whose blocks are good, beside what is listed: that no set is shown, that the table is full.
 fn remark_table(table: Table, blocks: usize) {
-    if table.shown_count() == 0 {
+    let sets = table.sets;
+    if sets.shown_count() == 0 {
         say_number(b"no set is shown in ", blocks, b" blocks");
         say(
             b"a set is shown when the next start of its list has come; a refused block drops open lists. 'figs' tells what the blocks hold",
@@ -56,7 +57,7 @@ fn remark_table(table: Table, blocks: usize) {
             b"",
         );
     }
-    if table.count == Table::KEYS {
+    if sets.count == Table::KEYS {
         say(
             b"the table holds 32 sets, as many as it can: others may have found no room",
             b"",

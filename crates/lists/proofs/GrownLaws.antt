@@ -10,10 +10,9 @@ use lib.ListN.{length, drop, replicate, length-append}
 use lib.Dec.{ltb, leb}
 use borrow.Author.Tests.{lt-ltb, le-ltb, le-leb, lt-leb, ltb-true, ltb-false}
 use Rattle.rules.specs.Arrays.{padded}
-use Rattle.rules.specs.Field.{Pair, pair, namedBy, pairsOf}
+use Rattle.rules.specs.Field.{Pair, pair, namedBy, pairsOf, numberIn, kindIn}
 use Rattle.rules.specs.Family.{member, added, addedAll, extended, opening}
 use Rattle.rules.specs.Collecting.{linkage, IdSet, joinNames, brings}
-use Rattle.rules.specs.Outcomes.{numberIn, kindIn}
 use Rattle.rules.proofs.FamilyLaws.{addedAll-grows, length-addedAll, added-new}
 use Rattle.rules.proofs.Basics.{cases-bool}
 use Rattle.rules.proofs.TableRules.{lawful, join-zero}

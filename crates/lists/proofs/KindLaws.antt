@@ -8,7 +8,7 @@ use mathlib.Core.List.{List, [], _∷_}
 use lib.ListN.{length, getD, drop}
 use borrow.Author.Tests.{eq-eqb, ne-eqb}
 use Rattle.rules.specs.Field.{Pair, pair}
-use Rattle.rules.specs.Air.{hasKind}
+use Rattle.lists.specs.Kinds.{hasKind}
 use Rattle.lists.specs.Stored.{pairsIn}
 use Rattle.lists.proofs.Pairs.{drop-pairs, drop-pairs-end}
 

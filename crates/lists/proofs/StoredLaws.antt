@@ -12,12 +12,11 @@ use lib.Dec.{eqb}
 use lib.Seq.{take-append-seam}
 use borrow.Author.Tests.{eqb-true, eqb-false, eq-eqb, ne-eqb}
 use Rattle.rules.specs.Arrays.{padded}
-use Rattle.rules.specs.Field.{Pair, pair}
-use Rattle.rules.specs.Collecting.{IdSet, keyWidth, pairsMeet, namesMeet, allDiffer, firstIsDab, ifThere}
-use Rattle.rules.specs.Outcomes.{numberIn, kindIn}
+use Rattle.rules.specs.Field.{Pair, pair, numberIn, kindIn}
+use Rattle.rules.specs.Collecting.{IdSet, keyWidth, pairsMeet, namesMeet, allDiffer, notEmpty, mayBegin, beginsRight, ifThere}
 use Rattle.rules.proofs.Basics.{cases-bool, and-left, and-right}
 use Rattle.rules.proofs.Arrays.{length-padded, drop-padded, same-padded}
-use Rattle.rules.proofs.TableRules.{SetRules, set-rules}
+use Rattle.rules.proofs.TableRules.{SetRules, set-rules, some-there, not-empty}
 use Rattle.lists.specs.declared.IdList.{IdList}
 use Rattle.lists.specs.Stored.{storeList, emptyList, storeMaybe, paired, pairsIn, allZero, Holds, Tested}
 use Rattle.lists.proofs.Pairs.{length-pairs-in}
@@ -72,18 +71,16 @@ numbers-of-pairs (k ∷ ks) (n ∷ ns) (suc len) e = ap (λ (r : List ℕ). n �
 all-zeros : (xs : List ℕ) → length xs ≡ 128 → allZero xs ≡ true → xs ≡ replicate 128 0
 all-zeros xs l z = zeros-replicate xs z ∙ ap (λ (k : ℕ). replicate k 0) l
 
--- a set that begins with a DAB service is not empty
-pub not-none : (ps : List Pair) → firstIsDab ps ≡ true → length ps ≡ 0 → ⊥
-unfolding firstIsDab
-not-none [] e z = false≢true e
-not-none (p ∷ ps) e z = omega arith
+-- a set is not empty
+pub not-none : (ps : List Pair) → notEmpty ps ≡ true → length ps ≡ 0 → ⊥
+not-none ps e z = omega (arith, some-there ps e)
 
-first-kept : (ks ns : List ℕ) (len : ℕ) → length ks ≡ 128 → length ns ≡ 128 → (len ≡ 0 → ⊥) → getD ks 0 0 ≡ 0 → firstIsDab (pairsIn ks ns len) ≡ true
-unfolding pairsIn paired firstIsDab pair
-first-kept [] ns len k n z e = absurd (omega arith)
-first-kept (a ∷ ks) [] len k n z e = absurd (omega arith)
-first-kept (a ∷ ks) (b ∷ ns) zero k n z e = absurd (z refl)
-first-kept (a ∷ ks) (b ∷ ns) (suc len) k n z e = eq-eqb a 0 e
+first-kept : (key : ℕ) (ks ns : List ℕ) (len : ℕ) → mayBegin key (getD ks 0 0) ≡ true → beginsRight key (pairsIn ks ns len) ≡ true
+unfolding pairsIn paired beginsRight pair
+first-kept key ks ns zero e = refl
+first-kept key [] ns (suc len) e = refl
+first-kept key (a ∷ ks) [] (suc len) e = refl
+first-kept key (a ∷ ks) (b ∷ ns) (suc len) e = e
 
 -- ---- what is read off a list that holds something
 
@@ -92,20 +89,21 @@ pub record Facts (key : ℕ) (l : IdList) : Type 0 where
   pub numbers-end : allZero (drop (l .len) (l .numbers)) ≡ true
   pub kinds-end : allZero (drop (l .len) (l .kinds)) ≡ true
   pub unnamed : l .len ≡ 0 → l .named ≡ 0
-  pub first : (l .len ≡ 0 → ⊥) → getD (l .kinds) 0 0 ≡ 0
+  pub first : (l .len ≡ 0 → ⊥) → mayBegin key (getD (l .kinds) 0 0) ≡ true
   pub names : (l .len ≡ 0 → ⊥) → namesMeet key (l .named) ≡ true
   pub pairs : (l .len ≡ 0 → ⊥) → pairsMeet (keyWidth key) (l .named) (pairsIn (l .kinds) (l .numbers) (l .len)) ≡ true
   pub differ : (l .len ≡ 0 → ⊥) → allDiffer (pairsIn (l .kinds) (l .numbers) (l .len)) ≡ true
 
-first-kind : (ps : List Pair) (pad : List ℕ) → firstIsDab ps ≡ true → getD (map kindIn ps ++ pad) 0 0 ≡ 0
-unfolding firstIsDab kindIn
-first-kind [] pad e = absurd (false≢true e)
-first-kind (p ∷ ps) pad e = eqb-true (p .kind) 0 e
+first-kind : (key : ℕ) (ps : List Pair) (pad : List ℕ) → notEmpty ps ≡ true → beginsRight key ps ≡ true
+    → mayBegin key (getD (map kindIn ps ++ pad) 0 0) ≡ true
+unfolding notEmpty beginsRight kindIn
+first-kind key [] pad s e = absurd (false≢true s)
+first-kind key (p ∷ ps) pad s e = e
 
 -- a stored set of at least one pair
-first-of : (l : IdSet) → firstIsDab (l .items) ≡ true → getD (storeList l .kinds) 0 0 ≡ 0
+first-of : (key : ℕ) (l : IdSet) → notEmpty (l .items) ≡ true → beginsRight key (l .items) ≡ true → mayBegin key (getD (storeList l .kinds) 0 0) ≡ true
 unfolding storeList padded
-first-of l e = first-kind (l .items) _ e
+first-of key l s e = first-kind key (l .items) _ s e
 
 some-facts : (key : ℕ) (l : IdSet) → SetRules key l → Facts key (storeList l)
 unfolding storeList
@@ -114,8 +112,8 @@ some-facts key l f =
       short = f .short;
       numbers-end = rw (← length-map (l .items) numberIn) (padded-zeros 128 (map numberIn (l .items)));
       kinds-end = rw (← length-map (l .items) kindIn) (padded-zeros 128 (map kindIn (l .items)));
-      unnamed = λ z. absurd (not-none (l .items) (f .first) z);
-      first = λ n. first-of l (f .first);
+      unnamed = λ z. absurd (not-none (l .items) (f .some) z);
+      first = λ n. first-of key l (f .some) (f .first);
       names = λ n. f .names;
       pairs = λ n. ap (pairsMeet (keyWidth key) (l .named)) (pairs-in-store l) ∙ f .pairs;
       differ = λ n. ap allDiffer (pairs-in-store l) ∙ f .differ;
@@ -124,7 +122,7 @@ some-facts key l f =
 -- a stored list is not empty
 pub stored-some : (key : ℕ) (l : IdSet) → ifThere key (some l) ≡ true → storeMaybe (some l) .len ≡ 0 → ⊥
 unfolding ifThere storeMaybe storeList
-stored-some key l m z = not-none (l .items) (set-rules key l .0 m .first) z
+stored-some key l m z = not-none (l .items) (set-rules key l .0 m .some) z
 
 store-facts : (key : ℕ) (o : Option IdSet) → ifThere key o ≡ true → Facts key (storeMaybe o)
 unfolding ifThere storeMaybe emptyList allZero
@@ -155,7 +153,7 @@ list-of-store : (key : ℕ) (o : Option IdSet) → ifThere key o ≡ true → li
 unfolding listOf storeMaybe storeList emptyList ifThere
 list-of-store key none e = refl
 list-of-store key (some l) e =
-    rw (ne-eqb (length (l .items)) 0 (not-none (l .items) (set-rules key l .0 e .first)))
+    rw (ne-eqb (length (l .items)) 0 (not-none (l .items) (set-rules key l .0 e .some)))
     (ap (λ (ps : List Pair). some (record { items = ps; named = l .named })) (pairs-in-store l))
 
 pub list-of-holds : (key : ℕ) (l : IdList) → Holds key l → (ifThere key (listOf l) ≡ true) × (storeMaybe (listOf l) ≡ l)
@@ -198,7 +196,8 @@ module _ (key : ℕ) (l : IdList) (f : Facts key l) (numbers-long : length (l .n
   kept-facts n =
       record {
         short = subst (λ (k : ℕ). k ≤ 128) (sym length-kept) (f .short);
-        first = first-kept (l .kinds) (l .numbers) (l .len) kinds-long numbers-long n (f .first n);
+        some = not-empty (pairsIn (l .kinds) (l .numbers) (l .len)) (omega (arith, length-kept, n));
+        first = first-kept key (l .kinds) (l .numbers) (l .len) (f .first n);
         differ = f .differ n;
         pairs = f .pairs n;
         names = f .names n;

@@ -1,2 +1,3 @@
+pub mod Kinds
 pub mod Stored
 pub mod Grown

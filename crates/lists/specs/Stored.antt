@@ -8,9 +8,8 @@ use mathlib.Core.Option.{Option, none, some}
 use lib.ListN.{length, take, replicate}
 use lib.Dec.{eqb}
 use Rattle.rules.specs.Arrays.{padded}
-use Rattle.rules.specs.Field.{Pair, pair}
+use Rattle.rules.specs.Field.{Pair, pair, numberIn, kindIn}
 use Rattle.rules.specs.Collecting.{IdSet, ifThere}
-use Rattle.rules.specs.Outcomes.{numberIn, kindIn}
 use Rattle.lists.specs.declared.IdList.{IdList}
 
 -- a list: numbers and kinds from place 0 on, zeros past them

@@ -10,8 +10,8 @@ ghost use Prim.Native.Nat.{min, max};
 ghost use lib.ListN.{length, drop};
 ghost use Rattle.rules.specs.Field.{pair, namedBy};
 ghost use Rattle.rules.specs.Family.{member};
-ghost use Rattle.rules.specs.Air.{hasKind};
-ghost use Rattle.rules.specs.Collecting.{linkage, joinNames, keyWidth, kindNamed, namesMeet, pairsMeet, allDiffer};
+ghost use Rattle.rules.specs.Collecting.{linkage, joinNames, keyWidth, mayBegin, kindNamed, namesMeet, pairsMeet, allDiffer};
+ghost use Rattle.lists.specs.Kinds.{hasKind, isDead};
 ghost use Rattle.lists.specs.Grown.{withField};
 ghost use Rattle.lists.specs.Stored.{emptyList, pairsIn, allZero, Holds, Tested};
 use field::Field;
@@ -90,7 +90,7 @@ pub fn has_kind<'a>(kind: u8, numbers: &'a [u32], kinds: &'a [u8], len: usize) -
 
 // Whether a kind, named or not, is a named kind without identifiers.
 pub fn is_dead<'a>(kind: u8, named: bool, numbers: &'a [u32], kinds: &'a [u8], len: usize) -> bool
-    ensures { λ r. ⌜ r ≡ (named && not (hasKind kind (pairsIn (now (kinds .entry)) (now (numbers .entry)) len))) ⌝ }
+    ensures { λ r. ⌜ r ≡ isDead kind named (pairsIn (now (kinds .entry)) (now (numbers .entry)) len) ⌝ }
 {
     if named {
         !has_kind(kind, numbers, kinds, len)
@@ -170,6 +170,13 @@ pub fn kind_named(named: u8, kind: u8) -> bool
     }
 }
 
+// Whether a list of a key may begin with a kind.
+pub fn may_begin(key: u32, kind: u8) -> bool
+    ensures { λ r. ⌜ r ≡ mayBegin key kind ⌝ }
+{
+    kind == 0
+}
+
 // Whether a key's list may name these kinds.
 pub fn names_meet(key: u32, named: u8) -> bool
     ensures { λ r. ⌜ r ≡ namesMeet key named ⌝ }
@@ -232,7 +239,7 @@ impl IdList {
         if len == 0 {
             return self.named == 0;
         }
-        if self.kinds[0] != 0 {
+        if !may_begin(key, self.kinds[0]) {
             return false;
         }
         if !names_meet(key, self.named) {
@@ -279,6 +286,13 @@ fn join_names(a: u8, b: u8) -> u8
     larger(a % 2, b % 2) + 2 * larger(a / 2, b / 2)
 }
 
+// The kinds that a list names once a field with this qualifier is added.
+pub fn names_with(named: u8, qualifier: u8) -> u8
+    ensures { λ r. ⌜ r ≡ joinNames named (namedBy qualifier) ⌝ }
+{
+    join_names(named, named_by(qualifier))
+}
+
 impl IdList {
     // With the identifiers of a field at its end, in order, each once, and the kinds that it names. A
     // list that would grow beyond 128 is handed back as none.
@@ -286,7 +300,7 @@ impl IdList {
         ensures { λ r. ⌜ r ≡ withField self (now (body .entry)) f ⌝ }
     {
         let mut next = self;
-        next.named = join_names(self.named, named_by(f.qualifier));
+        next.named = names_with(self.named, f.qualifier);
         let count = f.count;
         let mut i = 0;
         while i < count {

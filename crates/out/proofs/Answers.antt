@@ -1,18 +1,27 @@
--- Laws of the answer of a function that writes an output: a buffer that is too short, and one that is not.
+-- Laws of the answer of a function that writes an output: a buffer that is too short, and one that is not; what then stands at its
+-- front.
 use Prim.Native.Nat.{ℕ, _≤_, _<_}
 use native.Mathlib.Nat.{zero-add}
 use native.Mathlib.Omega.{arith}
-use mathlib.Core.Path.{_≡_, ap, _∙_}
+use mathlib.Core.Path.{_≡_, refl, sym, ap, _∙_}
+use mathlib.Core.Bool.{true}
 use mathlib.Core.List.{List, _++_}
-use lib.ListN.{length, drop}
-use lib.Seq.{sets, sets-eq}
+use lib.ListN.{length, take, drop}
+use lib.Dec.{ltb}
+use lib.Seq.{sets, sets-eq, take-at}
 use borrow.Author.Tests.{lt-ltb, le-ltb}
 use Rattle.rules.specs.declared.Outcome.the-variants.{Done, ShortBuffer}
-use Rattle.rules.specs.Outcomes.{overwritten}
-use Rattle.rules.specs.Air.{writtenTo}
-use Rattle.rules.specs.Air as Air
+use Rattle.rules.specs.Collecting.{Content, meets}
+use Rattle.rules.specs.Outcomes.{numberOf, overwritten}
+use Rattle.rules.proofs.Basics.{cases-bool}
+use Rattle.table.specs.declared.Table.{Table}
+use Rattle.table.specs.Stored.{storeTable}
+use Rattle.table.proofs.GivenLaws.{given-content}
+use Rattle.out.specs.Writing.{writtenTo}
+use Rattle.out.specs.Writing as Writing
 use Rattle.out.specs.Put.{Puts}
-use Rattle.out.specs.Answer.{writtenAs}
+use Rattle.out.specs.declared.Written.{Written}
+use Rattle.out.specs.Answer.{writtenAs, Outputs}
 
 -- a text that fits is at the front, the rest as it was
 pub sets-front : (us l : List ℕ) → length us ≤ length l → sets l 0 us ≡ us ++ drop (length us) l
@@ -29,3 +38,17 @@ written-done {us} {l} {m} {n} h p =
     let s : n ≡ length us = omega (arith, p .after) in
     let b : m ≡ us ++ drop (length us) l = p .stored ∙ sets-front us l h in
     rw (le-ltb (length l) (length us) h) (λ i. record { outcome = Done; size = s i; buffer = b i })
+
+-- what was written with outcome 0 to the front of a buffer is the output of what the table holds
+pub output-bytes : (F : Content → List ℕ) (t : Table) (old : List ℕ) (r : Written) (new : List ℕ) → Outputs F t old r new → numberOf (r .outcome) ≡ 0
+    → (c : Content) → meets c ≡ true → t ≡ storeTable c → take (r .size) new ≡ F c
+unfolding writtenAs writtenTo overwritten numberOf
+output-bytes F t old r new h o c m e =
+    let w : writtenAs r new ≡ writtenTo (F c) old = given-content c m e h in
+    cases-bool (ltb (length old) (length (F c)))
+    (λ s.
+    let q : writtenAs r new ≡ record { outcome = ShortBuffer; size = 0; buffer = old } = w ∙ rw s in
+    let z : 0 ≡ 8 = sym o ∙ ap (λ (x : Writing.Written). numberOf (x .outcome)) q in absurd (omega arith))
+    (λ s.
+    let q : writtenAs r new ≡ record { outcome = Done; size = length (F c); buffer = F c ++ drop (length (F c)) old } = w ∙ rw s in
+    (λ i. take (q i .size) (q i .buffer)) ∙ take-at (F c) (drop (length (F c)) old) (length (F c)) refl)

@@ -9,7 +9,7 @@ use lib.ListN.{length, length-append}
 use lib.Dec.{ltb}
 use lib.Pow.{pow-add}
 use borrow.Author.Tests.{lt-ltb, le-ltb}
-use Rattle.rules.specs.Listing.{hexDigit, hexText, decimalTo, decimal}
+use Rattle.out.specs.Text.{hexDigit, hexText, decimalTo, decimal}
 use Rattle.rules.proofs.Basics.{cases-bool}
 
 -- ---- hexadecimal

@@ -1,2 +1,4 @@
 pub mod Put
+pub mod Text
+pub mod Writing
 pub mod Answer

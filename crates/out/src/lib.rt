@@ -7,7 +7,7 @@ ghost use mathlib.Core.Path.{_≡_};
 ghost use mathlib.Core.List.{[], _∷_};
 ghost use Prim.Native.Nat.{_≤_, _<_, _/_, _%_, _^_, min};
 ghost use lib.ListN.{length, take};
-ghost use Rattle.rules.specs.Listing.{hexDigit, hexText, decimal};
+ghost use Rattle.out.specs.Text.{hexDigit, hexText, decimal};
 ghost use Rattle.out.specs.Put.{Puts};
 
 // The answer of a function that writes an output: its outcome, and how many bytes were written.

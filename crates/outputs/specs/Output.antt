@@ -3,9 +3,9 @@ use Prim.Native.Nat.{ℕ}
 use mathlib.Core.Bool.{true, false}
 use mathlib.Core.List.{List}
 use Rattle.rules.specs.Collecting.{Content}
-use Rattle.rules.specs.Listing.{listing}
-use Rattle.rules.specs.Sheet.{sheet}
-use Rattle.rules.specs.Air.{air}
+use Rattle.text.specs.Listing.{listing}
+use Rattle.layout.specs.Sheet.{sheet}
+use Rattle.pieces.specs.Air.{air}
 use Rattle.columns.specs.Columns.{columns}
 use Rattle.outputs.specs.declared.Output.{Output}
 use Rattle.outputs.specs.declared.Output.the-variants.{Lines, Columns, Spreadsheet, Sheet, Blocks}

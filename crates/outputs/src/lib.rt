@@ -1,10 +1,6 @@
 // What can be made of a table: its sets in lines or in columns, its sheet, its blocks for air. One function, by what is asked
 // for, over the crates that write each; it has no `requires`.
-ghost use mathlib.Core.Path.{_≡_};
-ghost use Rattle.rules.specs.Air.{writtenTo};
-ghost use Rattle.rules.specs.declared.Outcome.the-variants.{WrongTable};
-ghost use Rattle.table.specs.Stored.{Given};
-ghost use Rattle.out.specs.Answer.{writtenAs};
+ghost use Rattle.out.specs.Answer.{Outputs};
 ghost use Rattle.outputs.specs.Output.{outputOf};
 use out::Written;
 use table::Table;
@@ -21,9 +17,7 @@ pub enum Output {
 // Writes what is asked for of a table into a lent buffer: 9, then 8, or 0 and its size. The listing alone tells the bytes left
 // over.
 pub fn write_output(asked: Output, table: Table, over: usize, out: &mut [u8]) -> Written
-    ensures { λ r. ⌜ Given table
-        (λ c. writtenAs r (now (out .exit)) ≡ writtenTo (outputOf asked over c) (now (out .entry)))
-        (writtenAs r (now (out .exit)) ≡ record { outcome = WrongTable; size = 0; buffer = now (out .entry) }) ⌝ }
+    ensures { λ r. ⌜ Outputs (outputOf asked over) table (now (out .entry)) r (now (out .exit)) ⌝ }
 {
     match asked {
         Output::Lines => text::write_listing(table, over, out),

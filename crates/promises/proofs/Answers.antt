@@ -1,6 +1,6 @@
 -- Every call has a numbered outcome, and every refusal says what it leaves (document 01, demand 1). In order: reading a block,
 -- a recording, forgetting, copying out; of each the answers that there are (a data type with a constructor for each kind of
--- answer: when it is given, its number, and what is left) and that there are no others.
+-- answer: when it is given, its number, and what is left), that there are no others, and what a refusal leaves.
 use Prim.Native.Nat.{ℕ, _%_, _≤_, _<_}
 use mathlib.Core.Path.{_≡_, refl, sym, ap, _∙_, subst}
 use mathlib.Core.Bool.{true, false, _||_}
@@ -14,9 +14,9 @@ use Rattle.rules.specs.declared.Outcome.{Outcome}
 use Rattle.rules.specs.declared.Outcome.the-variants.{Done, NotHeld, ShortBuffer, WrongTable, NotShown}
 use Rattle.rules.specs.Field.{Field}
 use Rattle.rules.specs.Family.{find, forget, dropOpen}
-use Rattle.rules.specs.Collecting.{linkage, IdSet, Held, Content, meets}
+use Rattle.rules.specs.Collecting.{linkage, IdSet, Held, Entries, Content, withSets, meets}
 use Rattle.rules.specs.Outcomes as Outcomes
-use Rattle.rules.specs.Outcomes.{numberOf, taken, verdict, leftOver, heldOr, forgetOutcome, copySet, copyHeld, copyOut, notCopied}
+use Rattle.rules.specs.Outcomes.{numberOf, taken, verdict, leftOver, heldOr, forgetOutcome, forgotten, copySet, copyHeld, copyOut, notCopied}
 use Rattle.rules.proofs.Basics.{cases-bool, cases-option, none-some, or-cases, or-false-left, or-false-right}
 use Rattle.rules.proofs.LinkageLaws.{cases-verdict, answer-taken, answer-refused, no-block, notes-fields, Refused, Refusal, full-refusal, refused-full}
 use Rattle.rules.proofs.TableRules.{table-rules}
@@ -24,8 +24,11 @@ use Rattle.lists.specs.Stored.{emptyList}
 use Rattle.table.specs.declared.Table.{Table}
 use Rattle.table.specs.declared.Forgotten.{Forgotten}
 use Rattle.table.specs.declared.Copied.{Copied}
-use Rattle.table.specs.Stored.{storeTable, Stored, stored, notStored}
+use Rattle.table.specs.Stored.{tableOf, storeTable, Stored, stored, notStored}
 use Rattle.table.specs.Answers.{forgottenAs, copiedAs}
+use Rattle.table.proofs.GivenLaws.{sets-are}
+use Rattle.sets.specs.declared.Sets.{Sets}
+use Rattle.sets.specs.Stored.{storeSets}
 use Rattle.reading.specs.declared.Answer.{Answer}
 use Rattle.reading.specs.declared.Recorded.{Recorded}
 use Rattle.reading.specs.Steps.{storeNotes, noNotes}
@@ -37,12 +40,12 @@ use Rattle.promises.proofs.Contracts.{ReadsBlock, ReadsRecording, Forge
 -- ---- reading a block: 0 to 6, or 9
 
 -- held keys, on and off and shown sets are as they were; no list is open
-pub record Dropped (t u : Table) : Type 0 where
-  pub count : u .count ≡ t .count
-  pub keys : u .keys ≡ t .keys
-  pub on : u .on ≡ t .on
-  pub shown : u .shown ≡ t .shown
-  pub draft : u .draft ≡ replicate 32 emptyList
+pub record OpenDropped (t u : Table) : Type 0 where
+  pub count : u .sets .count ≡ t .sets .count
+  pub keys : u .sets .keys ≡ t .sets .keys
+  pub on : u .sets .on ≡ t .sets .on
+  pub shown : u .sets .shown ≡ t .sets .shown
+  pub draft : u .sets .draft ≡ replicate 32 emptyList
 
 pub data BlockAnswer (t : Table) (fib : List ℕ) (r : Answer) : Type 0 where
   -- 0, with one note a field
@@ -50,20 +53,21 @@ pub data BlockAnswer (t : Table) (fib : List ℕ) (r : Answer) : Type 0 where
   -- 1: everything is left as it was
   notABlock : Stored t → (length fib ≡ 32 → ⊥) → numberOf (r .outcome) ≡ 1 → r .notes ≡ noNotes → r .table ≡ t → BlockAnswer t fib r
   -- 2 to 6, each for its reason: everything but the open lists is left as it was
-  refusedBlock : Stored t → length fib ≡ 32 → Refused fib (numberOf (r .outcome)) → r .notes ≡ noNotes → Dropped t (r .table) → BlockAnswer t fib r
+  refusedBlock : Stored t → length fib ≡ 32 → Refused fib (numberOf (r .outcome)) → r .notes ≡ noNotes → OpenDropped t (r .table) → BlockAnswer t fib r
   -- 9: everything is left as it was
   wrongTable : (Stored t → ⊥) → numberOf (r .outcome) ≡ 9 → r .notes ≡ noNotes → r .table ≡ t → BlockAnswer t fib r
 
-dropped : (t u : Table) (c : Content) → meets c ≡ true → t ≡ storeTable c → u ≡ storeTable (dropOpen linkage c) → Dropped t u
-unfolding storeTable
+dropped : (t u : Table) (c : Content) → meets c ≡ true → t ≡ storeTable c → u ≡ storeTable (withSets c (dropOpen linkage (c .sets))) → OpenDropped t u
+unfolding storeSets
 dropped t u c f p q =
-    let e = q ∙ store-closed c (table-rules c .0 f .short) in
+    let e = ap (λ (x : Table). x .sets) q ∙ store-closed (c .sets) (table-rules (c .sets) .0 f .short) in
+    let same = sym (sets-are t c f p) in
     record {
-      count = ap (λ (x : Table). x .count) e ∙ sym (ap (λ (x : Table). x .count) p);
-      keys = ap (λ (x : Table). x .keys) e ∙ sym (ap (λ (x : Table). x .keys) p);
-      on = ap (λ (x : Table). x .on) e ∙ sym (ap (λ (x : Table). x .on) p);
-      shown = ap (λ (x : Table). x .shown) e ∙ sym (ap (λ (x : Table). x .shown) p);
-      draft = ap (λ (x : Table). x .draft) e;
+      count = ap (λ (x : Sets). x .count) e ∙ ap (λ (x : Sets). x .count) same;
+      keys = ap (λ (x : Sets). x .keys) e ∙ ap (λ (x : Sets). x .keys) same;
+      on = ap (λ (x : Sets). x .on) e ∙ ap (λ (x : Sets). x .on) same;
+      shown = ap (λ (x : Sets). x .shown) e ∙ ap (λ (x : Sets). x .shown) same;
+      draft = ap (λ (x : Sets). x .draft) e;
     }
 
 pub read-block-answers : (t : Table) (fib : List ℕ) (r : Answer) → ReadsBlock t fib r → BlockAnswer t fib r
@@ -88,6 +92,14 @@ read-block-answers t fib r (stored c f p a) =
 read-block-answers t fib r (notStored n a) =
     wrongTable n (ap (λ (x : Answer). numberOf (x .outcome)) a) (ap (λ (x : Answer). x .notes) a) (ap (λ (x : Answer). x .table) a)
 
+-- a refusal leaves everything as it was, or it is one of 2 to 6, for its reason, and everything but the open lists is left as it was
+pub read-block-refused : (t : Table) (fib : List ℕ) (r : Answer) → BlockAnswer t fib r → (numberOf (r .outcome) ≡ 0 → ⊥)
+    → (r .table ≡ t) ⊎ (Refused fib (numberOf (r .outcome)) × OpenDropped t (r .table))
+read-block-refused t fib r (done s fs e o n) h = absurd (h o)
+read-block-refused t fib r (notABlock s l o n e) h = inl e
+read-block-refused t fib r (refusedBlock s l w n d) h = inr (w, d)
+read-block-refused t fib r (wrongTable s o n e) h = inl e
+
 -- ---- a recording: 0 or 9
 
 pub data RecordingAnswer (t : Table) (bytes : List ℕ) (r : Recorded) : Type 0 where
@@ -102,6 +114,11 @@ read-recording-answers t bytes r (stored c f p a) = done (c, f, p) (ap (λ (x : 
 read-recording-answers t bytes r (notStored n a) =
     wrongTable n (ap (λ (x : Recorded). numberOf (x .outcome)) a) (ap (λ (x : Recorded). x .rest) a) (ap (λ (x : Recorded). x .table) a)
 
+-- a refusal leaves everything as it was
+pub read-recording-refused : (t : Table) (bytes : List ℕ) (r : Recorded) → RecordingAnswer t bytes r → (numberOf (r .outcome) ≡ 0 → ⊥) → r .table ≡ t
+read-recording-refused t bytes r (done s o n) h = absurd (h o)
+read-recording-refused t bytes r (wrongTable s o n e) h = e
+
 -- ---- forgetting: 0, 7 or 9
 
 -- a table stores a content that meets the rules
@@ -110,14 +127,14 @@ Stores t c = (meets c ≡ true) × (t ≡ storeTable c)
 
 pub data ForgetAnswer (t : Table) (k : ℕ) (r : Forgotten) : Type 0 where
   -- 0: the key was held
-  done : (c : Content) → Stores t c → (e : Held) → find linkage k c ≡ some e → numberOf (r .outcome) ≡ 0 → ForgetAnswer t k r
+  done : (c : Content) → Stores t c → (e : Held) → find linkage k (c .sets) ≡ some e → numberOf (r .outcome) ≡ 0 → ForgetAnswer t k r
   -- 7: it was not, and everything is left as it was
-  notHeld : (c : Content) → Stores t c → find linkage k c ≡ none → numberOf (r .outcome) ≡ 7 → r .table ≡ t → ForgetAnswer t k r
+  notHeld : (c : Content) → Stores t c → find linkage k (c .sets) ≡ none → numberOf (r .outcome) ≡ 7 → r .table ≡ t → ForgetAnswer t k r
   -- 9: everything is left as it was
   wrongTable : (Stored t → ⊥) → numberOf (r .outcome) ≡ 9 → r .table ≡ t → ForgetAnswer t k r
 
 -- forgetting what is not held changes nothing
-forget-unheld : (k : ℕ) (c : Content) → find linkage k c ≡ none → forget linkage k c ≡ c
+forget-unheld : (k : ℕ) (c : Entries) → find linkage k c ≡ none → forget linkage k c ≡ c
 unfolding find forget
 forget-unheld k [] e = refl
 forget-unheld k (x ∷ c) e =
@@ -126,14 +143,20 @@ forget-unheld k (x ∷ c) e =
     (λ s. rw s (ap (_∷_ x) (forget-unheld k c (rw s at e))))
 
 pub forget-key-answers : (t : Table) (k : ℕ) (r : Forgotten) → Forgets t k r → ForgetAnswer t k r
-unfolding forgottenAs forgetOutcome heldOr numberOf
+unfolding forgottenAs forgetOutcome forgotten heldOr numberOf
 forget-key-answers t k r (stored c f p a) =
     let n = ap (λ (x : Forgotten). numberOf (x .outcome)) a in
-    cases-option (find linkage k c)
+    cases-option (find linkage k (c .sets))
     (λ e. notHeld c (f, p) e (n ∙ ap (λ (o : Option Held). numberOf (heldOr o Done)) e)
-    (ap (λ (x : Forgotten). x .table) a ∙ ap storeTable (forget-unheld k c e) ∙ sym p))
+    (ap (λ (x : Forgotten). x .table) a ∙ ap (λ (s : Entries). tableOf (storeSets s)) (forget-unheld k (c .sets) e) ∙ sym p))
     (λ x e. done c (f, p) x e (n ∙ ap (λ (o : Option Held). numberOf (heldOr o Done)) e))
 forget-key-answers t k r (notStored n a) = wrongTable n (ap (λ (x : Forgotten). numberOf (x .outcome)) a) (ap (λ (x : Forgotten). x .table) a)
+
+-- a refusal leaves everything as it was
+pub forget-key-refused : (t : Table) (k : ℕ) (r : Forgotten) → ForgetAnswer t k r → (numberOf (r .outcome) ≡ 0 → ⊥) → r .table ≡ t
+forget-key-refused t k r (done c s e f o) h = absurd (h o)
+forget-key-refused t k r (notHeld c s f o e) h = e
+forget-key-refused t k r (wrongTable s o e) h = e
 
 -- ---- copying out: 0, 7, 8, 9 or 11
 
@@ -145,13 +168,13 @@ pub record Uncopied (ns ks : List ℕ) (r : Copied) (ms js : List ℕ) : Type 0 
 
 pub data CopyAnswer (t : Table) (k : ℕ) (ns ks : List ℕ) (r : Copied) (ms js : List ℕ) : Type 0 where
   -- 0: the key is held, its set shown, and both buffers are long enough
-  done : (c : Content) → Stores t c → (e : Held) → find linkage k c ≡ some e → (l : IdSet) → e .shown ≡ some l
+  done : (c : Content) → Stores t c → (e : Held) → find linkage k (c .sets) ≡ some e → (l : IdSet) → e .shown ≡ some l
       → length (l .items) ≤ length ns → length (l .items) ≤ length ks → numberOf (r .outcome) ≡ 0 → CopyAnswer t k ns ks r ms js
   -- 7, 11, 8 and 9: nothing is written
-  notHeld : (c : Content) → Stores t c → find linkage k c ≡ none → numberOf (r .outcome) ≡ 7 → Uncopied ns ks r ms js → CopyAnswer t k ns ks r ms js
-  notShown : (c : Content) → Stores t c → (e : Held) → find linkage k c ≡ some e → e .shown ≡ none
+  notHeld : (c : Content) → Stores t c → find linkage k (c .sets) ≡ none → numberOf (r .outcome) ≡ 7 → Uncopied ns ks r ms js → CopyAnswer t k ns ks r ms js
+  notShown : (c : Content) → Stores t c → (e : Held) → find linkage k (c .sets) ≡ some e → e .shown ≡ none
       → numberOf (r .outcome) ≡ 11 → Uncopied ns ks r ms js → CopyAnswer t k ns ks r ms js
-  shortBuffer : (c : Content) → Stores t c → (e : Held) → find linkage k c ≡ some e → (l : IdSet) → e .shown ≡ some l
+  shortBuffer : (c : Content) → Stores t c → (e : Held) → find linkage k (c .sets) ≡ some e → (l : IdSet) → e .shown ≡ some l
       → (length ns < length (l .items)) ⊎ (length ks < length (l .items)) → numberOf (r .outcome) ≡ 8 → Uncopied ns ks r ms js → CopyAnswer t k ns ks r ms js
   wrongTable : (Stored t → ⊥) → numberOf (r .outcome) ≡ 9 → Uncopied ns ks r ms js → CopyAnswer t k ns ks r ms js
 
@@ -173,7 +196,7 @@ uncopied o ns ks r ms js e =
 
 module _ (t : Table) (k : ℕ) (ns ks : List ℕ) (r : Copied) (ms js : List ℕ) where
   -- a shown set, with room in both buffers or not
-  copied-set : (c : Content) → Stores t c → (e : Held) → find linkage k c ≡ some e → (l : IdSet) → e .shown ≡ some l
+  copied-set : (c : Content) → Stores t c → (e : Held) → find linkage k (c .sets) ≡ some e → (l : IdSet) → e .shown ≡ some l
       → copiedAs r ms js ≡ copySet e (some l) ns ks → CopyAnswer t k ns ks r ms js
   unfolding copySet numberOf copiedAs
   copied-set c s e h l g a =
@@ -190,7 +213,7 @@ module _ (t : Table) (k : ℕ) (ns ks : List ℕ) (r : Copied) (ms js : List ℕ
   pub copy-out-answers : CopiesOut t k ns ks r ms js → CopyAnswer t k ns ks r ms js
   unfolding copyOut copyHeld copySet numberOf
   copy-out-answers (stored c f p a) =
-      cases-option (find linkage k c)
+      cases-option (find linkage k (c .sets))
       (λ h. let u = uncopied NotHeld ns ks r ms js (a ∙ ap (λ (o : Option Held). copyHeld o ns ks) h) in notHeld c (f, p) h (u .0) (u .1))
       (λ e h.
       let q : copiedAs r ms js ≡ copySet e (e .shown) ns ks = a ∙ ap (λ (o : Option Held). copyHeld o ns ks) h in
@@ -198,3 +221,11 @@ module _ (t : Table) (k : ℕ) (ns ks : List ℕ) (r : Copied) (ms js : List ℕ
       (λ n. let u = uncopied NotShown ns ks r ms js (q ∙ ap (λ (o : Option IdSet). copySet e o ns ks) n) in notShown c (f, p) e h n (u .0) (u .1))
       (λ l n. copied-set c (f, p) e h l n (q ∙ ap (λ (o : Option IdSet). copySet e o ns ks) n)))
   copy-out-answers (notStored n a) = let u = uncopied WrongTable ns ks r ms js a in wrongTable n (u .0) (u .1)
+
+  -- a refusal leaves both buffers as they were
+  pub copy-out-refused : CopyAnswer t k ns ks r ms js → (numberOf (r .outcome) ≡ 0 → ⊥) → (ms ≡ ns) × (js ≡ ks)
+  copy-out-refused (done c s e f l g n m o) h = absurd (h o)
+  copy-out-refused (notHeld c s f o u) h = (u .numbers, u .kinds)
+  copy-out-refused (notShown c s e f g o u) h = (u .numbers, u .kinds)
+  copy-out-refused (shortBuffer c s e f l g b o u) h = (u .numbers, u .kinds)
+  copy-out-refused (wrongTable s o u) h = (u .numbers, u .kinds)

@@ -1,21 +1,25 @@
--- What follows for everything that writes an output of a table into a lent buffer, from the answers that there are
--- (`write-answers`), over the output. In order: past the output the buffer is as it was (`write-rest`); a refusal leaves all of it
--- as it was (`write-refused`); what is written where there is room (`write-done`) and where the outcome is 0 (`write-bytes`); of
--- outputs of at most so many bytes, no more is written (`write-most`) and as many are always enough (`write-enough`).
+-- What follows for everything that writes an output of a table into a lent buffer, over the output. In order: past the output the
+-- buffer is as it was (`write-rest`); a refusal leaves all of it as it was (`write-refused`); what is written where there is room
+-- (`write-done`; where the outcome is 0, `output-bytes` of crate out); of outputs of at most so many bytes, no more is written
+-- (`write-most`) and as many are always enough (`write-enough`).
 use Prim.Native.Nat.{ℕ, _≤_}
 use native.Mathlib.Omega.{arith}
 use mathlib.Core.Path.{_≡_, ap, _∙_}
 use mathlib.Core.Bool.{true}
 use mathlib.Core.List.{List}
-use lib.ListN.{length, take, drop}
-use lib.Seq.{take-append-seam, drop-append-seam}
+use lib.ListN.{length, drop}
+use lib.Seq.{drop-append-seam}
+use borrow.Author.Tests.{le-ltb}
+use Rattle.rules.specs.declared.Outcome.the-variants.{Done}
 use Rattle.rules.specs.Collecting.{Content, meets}
 use Rattle.rules.specs.Outcomes.{numberOf, overwritten}
 use Rattle.table.specs.declared.Table.{Table}
 use Rattle.table.specs.Stored.{storeTable, Stored}
+use Rattle.table.proofs.GivenLaws.{given-content}
+use Rattle.out.specs.Writing.{writtenTo}
 use Rattle.out.specs.declared.Written.{Written}
-use Rattle.promises.proofs.Injective.{same-content}
-use Rattle.promises.proofs.Writing.{WriteAnswer, written, tooShort, noTable}
+use Rattle.out.specs.Answer.{Outputs}
+use Rattle.promises.proofs.Writing.{WriteAnswer, written, tooShort, noTable, written-is}
 
 module _ (F : Content → List ℕ) (t : Table) (old : List ℕ) (r : Written) (new : List ℕ) where
   pub write-rest : WriteAnswer F t old r new → drop (r .size) new ≡ drop (r .size) old
@@ -28,20 +32,11 @@ module _ (F : Content → List ℕ) (t : Table) (old : List ℕ) (r : Written) (
   write-refused (tooShort c m e h o s b) n = b
   write-refused (noTable k o s b) n = b
 
-  pub write-done : WriteAnswer F t old r new → (c : Content) → meets c ≡ true → t ≡ storeTable c → length (F c) ≤ length old
+  pub write-done : Outputs F t old r new → (c : Content) → meets c ≡ true → t ≡ storeTable c → length (F c) ≤ length old
       → (numberOf (r .outcome) ≡ 0) × (r .size ≡ length (F c)) × (new ≡ overwritten (F c) old)
-  unfolding overwritten Stored
-  write-done (written d n f h o s b) c m e l = rw (← same-content t d c n m f e) (o, s, b)
-  write-done (tooShort d n f h o s b) c m e l =
-      let p = ap (λ (x : Content). length (F x)) (same-content t d c n m f e) in
-      absurd (omega arith)
-  write-done (noTable n o s b) c m e l = absurd (n (c, m, e))
-
-  pub write-bytes : WriteAnswer F t old r new → numberOf (r .outcome) ≡ 0 → (c : Content) → meets c ≡ true → t ≡ storeTable c → take (r .size) new ≡ F c
-  write-bytes (written d n f h o s b) k c m e =
-      rw (s, b) (take-append-seam (F d) (drop (length (F d)) old)) ∙ ap F (same-content t d c n m f e)
-  write-bytes (tooShort d n f h o s b) k c m e = absurd (omega arith)
-  write-bytes (noTable n o s b) k c m e = absurd (omega arith)
+  unfolding writtenTo numberOf
+  write-done w c m e l =
+      written-is r new Done (length (F c)) (overwritten (F c) old) (given-content c m e w ∙ rw (le-ltb (length old) (length (F c)) l))
 
   module _ (most : ℕ) (within : (c : Content) → meets c ≡ true → length (F c) ≤ most) where
     pub write-most : WriteAnswer F t old r new → r .size ≤ most

@@ -1,4 +1,4 @@
--- Laws of calls. In order: a contract with a table at the content that the table stores; one call of read_block, of forget_key, of
+-- Laws of calls. In order: one call of read_block, of forget_key, of
 -- copy_out; which replies say that a set came to be shown.
 use Prim.Native.Nat.{ℕ, zero, suc, _≤_}
 use native.Mathlib.Omega.{arith}
@@ -10,39 +10,33 @@ use lib.ListN.{length, getElem?, length-map}
 use borrow.Author.Tests.{le-ltb}
 use Rattle.rules.specs.declared.Outcome.the-variants.{Done}
 use Rattle.rules.specs.declared.Note.{Note}
-use Rattle.rules.specs.declared.Note.the-variants.{Opened, ShownAndOpened, Added, NoOpenList, Full, TooLong, StateOnly, UnknownKey}
+use Rattle.rules.specs.declared.Note.the-variants.{Opened, ShownAndOpened, Added, NoOpenList, Full, TooLong, StateOnly, UnknownKey, Dropped}
 use Rattle.rules.specs.Family.{find}
 use Rattle.rules.specs.Collecting.{linkage, IdSet, Held, Content, Shown}
 use Rattle.rules.specs.Outcomes as Outcomes
 use Rattle.rules.specs.Outcomes.{numberOf, noteNumber, Verdict, taken, refused, noBlock, verdict, answerTo, readBlock, copySet, copyHeld, copyOut}
-use Rattle.rules.specs.Demand3.{ShowsIn, Operation, block, forgetting, afterOne, fieldsIn, saidBy, ShowsAt}
+use Rattle.rules.specs.Receptions.{ShowsIn}
+use Rattle.promises.specs.Demand3.{Operation, block, forgetting, afterOne, fieldsIn, saidBy, ShowsAt}
 use Rattle.rules.proofs.Basics.{none-some, Within}
 use Rattle.rules.proofs.FamilyLaws.{every-found}
 use Rattle.rules.proofs.Arrays.{take-padded}
 use Rattle.rules.proofs.TableRules.{SetMeets, EntryMeets, table-meets}
 use Rattle.rules.proofs.LinkageLaws.{meets-block, forget-keeps}
-use Rattle.rules.proofs.Demand3.{noted-shown, shown-noted}
+use Rattle.promises.proofs.Better.{noted-shown, shown-noted}
 use Rattle.table.specs.declared.Table.{Table}
 use Rattle.table.specs.declared.Forgotten.{Forgotten}
 use Rattle.table.specs.declared.Copied.{Copied}
-use Rattle.table.specs.Stored.{Stored, Given, stored, notStored}
 use Rattle.table.specs.Answers.{forgottenAs, copiedAs}
+use Rattle.table.proofs.GivenLaws.{given-content}
 use Rattle.reading.specs.declared.Answer.{Answer}
 use Rattle.reading.specs.Steps.{storeNotes, notedAs}
 use Rattle.reading.specs.Runs.{runAs}
 use Rattle.promises.proofs.Contracts.{ReadsBlock, Forgets, CopiesOut}
-use Rattle.promises.proofs.Injective.{same-content}
 use Rattle.promises.proofs.Single.{copied-apart}
 use Rattle.promises.proofs.Answers.{Stores}
 use Rattle.promises.proofs.Calls.{Reply, numberNoted, blockReply, forgetReply, OfBytes, NotedShown, replyTo, repliesTo}
-use Rattle.promises.proofs.HeldKeys.{Showing}
+use Rattle.rules.proofs.HeldKeys.{Showing}
 use Rattle.promises.proofs.Receptions.{map-at}
-
--- what a contract says of a table that stores a content, it says of that content
-pub given-stores : {t : Table} {P : Content → Type 0} {Q : Type 0} (c : Content) → Stores t c → Given t P Q → P c
-unfolding Stored
-given-stores {t} {P} c s (stored d m e p) = subst P (same-content t d c m (s .0) e (s .1)) p
-given-stores c s (notStored n q) = absurd (n (c, s .0, s .1))
 
 -- ---- one call
 
@@ -58,8 +52,8 @@ pub read-call : {t : Table} (c : Content) (fib : List ℕ) (r : Answer) → Stor
     → Stores (r .table) (afterOne c (block fib)) × (blockReply r ≡ replyTo c (block fib))
 unfolding afterOne replyTo runAs
 read-call c fib r s b x =
-    let e : r ≡ runAs (readBlock c fib) = given-stores c s x in (
-      (table-meets (readBlock c fib .left) .1 (meets-block c fib b (table-meets c .0 (s .0))), ap (λ (a : Answer). a .table) e),
+    let e : r ≡ runAs (readBlock c fib) = given-content c (s .0) (s .1) x in (
+      (table-meets (readBlock c fib .left .sets) .1 (meets-block c fib b (table-meets (c .sets) .0 (s .0))), ap (λ (a : Answer). a .table) e),
       ap blockReply e ∙ reply-stored (readBlock c fib),
     )
 
@@ -67,25 +61,25 @@ pub forget-call : {t : Table} (c : Content) (k : ℕ) (r : Forgotten) → Stores
     → Stores (r .table) (afterOne c (forgetting k)) × (forgetReply r ≡ replyTo c (forgetting k))
 unfolding afterOne replyTo forgetReply forgottenAs
 forget-call c k r s x =
-    let e : r ≡ forgottenAs k c = given-stores c s x in
+    let e : r ≡ forgottenAs k c = given-content c (s .0) (s .1) x in
     ((forget-keeps k c (s .0), ap (λ (a : Forgotten). a .table) e), ap forgetReply e)
 
 -- copying out sees of a content what it holds of the key
 pub copy-call : {u v : Table} (k : ℕ) (c d : Content) (ns ks : List ℕ) (r q : Copied) (nr kr nq kq : List ℕ) → Stores u c → Stores v d
-    → find linkage k c ≡ find linkage k d → CopiesOut u k ns ks r nr kr → CopiesOut v k ns ks q nq kq → (r ≡ q) × (nr ≡ nq) × (kr ≡ kq)
+    → find linkage k (c .sets) ≡ find linkage k (d .sets) → CopiesOut u k ns ks r nr kr → CopiesOut v k ns ks q nq kq → (r ≡ q) × (nr ≡ nq) × (kr ≡ kq)
 unfolding copyOut
 copy-call k c d ns ks r q nr kr nq kq s z e x y =
-    copied-apart r q nr kr nq kq (given-stores c s x ∙ ap (λ (o : Option Held). copyHeld o ns ks) e ∙ sym (given-stores d z y))
+    copied-apart r q nr kr nq kq (given-content c (s .0) (s .1) x ∙ ap (λ (o : Option Held). copyHeld o ns ks) e ∙ sym (given-content d (z .0) (z .1) y))
 
 -- a set that is shown is copied out, where both buffers have 128 places
-pub copy-shown : {u : Table} (k : ℕ) (c : Content) (ns ks : List ℕ) (r : Copied) (nr kr : List ℕ) → Stores u c → Showing linkage (find linkage k c)
+pub copy-shown : {u : Table} (k : ℕ) (c : Content) (ns ks : List ℕ) (r : Copied) (nr kr : List ℕ) → Stores u c → Showing linkage (find linkage k (c .sets))
     → 128 ≤ length ns → 128 ≤ length ks → CopiesOut u k ns ks r nr kr → numberOf (r .outcome) ≡ 0
 unfolding copyOut copyHeld copySet copiedAs numberOf
 copy-shown k c ns ks r nr kr s x n m y =
-    let meets = subst (Within EntryMeets) (x .found) (every-found linkage EntryMeets k c (table-meets c .0 (s .0) .entries)) in
+    let meets = subst (Within EntryMeets) (x .found) (every-found linkage EntryMeets k (c .sets) (table-meets (c .sets) .0 (s .0) .entries)) in
     let short = subst (Within (SetMeets (x .held .key))) (x .shown) (meets .1 .0) .short in
     let held = ap (λ (o : Option Held). copyHeld o ns ks) (x .found) in
-    let e = given-stores c s y ∙ held ∙ ap (λ (o : Option IdSet). copySet (x .held) o ns ks) (x .shown) in
+    let e = given-content c (s .0) (s .1) y ∙ held ∙ ap (λ (o : Option IdSet). copySet (x .held) o ns ks) (x .shown) in
     let size = length (x .set .items) in
     ap (λ (z : Outcomes.Copied). numberOf (z .outcome)) (rw (le-ltb (length ns) size (omega arith), le-ltb (length ks) size (omega arith)) at e)
 
@@ -102,6 +96,7 @@ note-two Full e = absurd (omega arith)
 note-two TooLong e = absurd (omega arith)
 note-two StateOnly e = absurd (omega arith)
 note-two UnknownKey e = absurd (omega arith)
+note-two Dropped e = absurd (omega arith)
 
 pub noted-two : (ns : List Note) (j : ℕ) → getElem? (map noteNumber ns) j ≡ some 2 → getElem? ns j ≡ some ShownAndOpened
 noted-two [] j h = none-some refl h
@@ -127,7 +122,7 @@ reply-shows c (forgetting k ∷ os) zero j x =
     none-some refl (ap (λ (r : Reply). getElem? (r .notes) j) q ∙ x .noted)
 
 -- a block at a field of which a set came to be shown was taken
-pub shows-done : (c : Content) (v : Verdict) (j k : ℕ) (on : Bool) (l : IdSet) → ShowsIn linkage c (fieldsIn v) j k on l
+pub shows-done : (c : Content) (v : Verdict) (j k : ℕ) (on : Bool) (l : IdSet) → ShowsIn linkage (c .sets) (fieldsIn v) j k on l
     → answerTo c v .outcome ≡ Done
 unfolding answerTo fieldsIn ShowsIn
 shows-done c (taken fs) j k on l h = refl

@@ -9,7 +9,7 @@ use lib.ListN.{take, getElem?}
 use Rattle.rules.specs.Field.{Field}
 use Rattle.rules.specs.Collecting.{Content}
 use Rattle.rules.specs.Outcomes.{numberOf, noteNumber, taken, verdict, readBlock, forgetOutcome}
-use Rattle.rules.specs.Demand3.{Operation, block, forgetting, afterOne}
+use Rattle.promises.specs.Demand3.{Operation, block, forgetting, afterOne}
 use Rattle.rules.proofs.Basics.{Every}
 use Rattle.table.specs.declared.Table.{Table}
 use Rattle.table.specs.declared.Forgotten.{Forgotten}

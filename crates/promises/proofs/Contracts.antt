@@ -5,11 +5,10 @@ use mathlib.Core.Path.{_≡_}
 use mathlib.Core.Bool.{Bool}
 use mathlib.Core.List.{List}
 use Rattle.rules.specs.declared.Outcome.the-variants.{WrongTable}
-use Rattle.rules.specs.Collecting.{Content}
 use Rattle.rules.specs.Outcomes.{readBlock, copyOut, notCopied}
-use Rattle.rules.specs.Air.{air, writtenTo}
-use Rattle.rules.specs.Sheet.{sheet}
-use Rattle.rules.specs.Listing.{listing}
+use Rattle.pieces.specs.Air.{air}
+use Rattle.layout.specs.Sheet.{sheet}
+use Rattle.text.specs.Listing.{listing}
 use Rattle.table.specs.declared.Table.{Table}
 use Rattle.table.specs.declared.Forgotten.{Forgotten}
 use Rattle.table.specs.declared.Copied.{Copied}
@@ -19,7 +18,7 @@ use Rattle.reading.specs.declared.Answer.{Answer}
 use Rattle.reading.specs.declared.Recorded.{Recorded}
 use Rattle.reading.specs.Runs.{runAs, refusedTable, recordedAs, unrecorded}
 use Rattle.out.specs.declared.Written.{Written}
-use Rattle.out.specs.Answer.{writtenAs}
+use Rattle.out.specs.Answer.{Outputs}
 use Rattle.columns.specs.Columns.{columns}
 use Rattle.outputs.specs.declared.Output.{Output}
 use Rattle.outputs.specs.Output.{outputOf}
@@ -37,12 +36,7 @@ Forgets t k r = Given t (λ c. r ≡ forgottenAs k c) (r ≡ record { outcome = 
 abbrev pub CopiesOut : Table → ℕ → List ℕ → List ℕ → Copied → List ℕ → List ℕ → Type 0
 CopiesOut t k ns ks r ms js = Given t (λ c. copiedAs r ms js ≡ copyOut k c ns ks) (copiedAs r ms js ≡ notCopied WrongTable ns ks)
 
--- an output of the content into a lent buffer: the buffer before, the answer, the buffer after
-abbrev pub Outputs : (Content → List ℕ) → Table → List ℕ → Written → List ℕ → Type 0
-Outputs F t old r new =
-    Given t (λ c. writtenAs r new ≡ writtenTo (F c) old) (writtenAs r new ≡ record { outcome = WrongTable; size = 0; buffer = old })
-
--- with the bytes left over
+-- each output: the buffer before, the answer, the buffer after; of the listing with the bytes left over
 abbrev pub WritesListing : Table → ℕ → List ℕ → Written → List ℕ → Type 0
 WritesListing t over = Outputs (λ c. listing c over) t
 

@@ -1,10 +1,11 @@
--- A caller has exactly what the rules say of the blocks and forgettings so far (document 00, demand 2), said of calls. In order: from any
--- table that meets the table rules; from the empty one; that there are such calls.
+-- A caller has exactly what the rules say of the blocks and forgettings so far, and what is written reads back to the same sets (document
+-- 00, demand 2). Below, of calls of read_block and forget_key, in order: from any table that meets the table rules; from the empty one;
+-- that there are such calls. The rest is handed on from where it is proved.
 use mathlib.Core.Path.{_≡_, refl, ap₂}
 use mathlib.Core.List.{List, [], _∷_}
-use Rattle.rules.specs.Collecting.{Content}
+use Rattle.rules.specs.Collecting.{Content, nothing}
 use Rattle.rules.specs.Outcomes.{readBlock}
-use Rattle.rules.specs.Demand3.{Operation, block, forgetting, afterOne}
+use Rattle.promises.specs.Demand3.{Operation, block, forgetting, afterOne}
 use Rattle.rules.proofs.Basics.{Every}
 use Rattle.rules.proofs.TableRules.{meets-nil}
 use Rattle.table.specs.declared.Table.{Table}
@@ -15,6 +16,11 @@ use Rattle.promises.proofs.Contracts.{ReadsBlock, Forgets}
 use Rattle.promises.proofs.Answers.{Stores}
 use Rattle.promises.proofs.Calls.{Reply, Calls, ended, reads, forgets, OfBytes, afterAll, repliesTo}
 use Rattle.promises.proofs.CallLaws.{read-call, forget-call}
+-- what is handed back meets the table rules, in its one stored form
+pub use Rattle.promises.proofs.Kept.{read-block-keeps, read-recording-keeps, forget-key-keeps, load-sheet-meets, empty-meets}
+-- what is written for air, read twice into an empty table; what is written as a sheet, loaded, and what is loaded, written
+pub use Rattle.promises.proofs.AirWritten.{write-air-shows, write-air-shows-twice-over, write-air-reads-back}
+pub use Rattle.promises.proofs.SheetWritten.{write-sheet-loads, load-sheet-writes}
 
 -- From a table that stores a content, calls end in the table that stores what the rules make of that content (which meets the table
 -- rules again), and on the way they are answered what the rules say.
@@ -32,9 +38,9 @@ calls-hold c s b (forgets {k} r x xs) =
     (rest .0, ap₂ _∷_ (one .1) (rest .1))
 
 -- From the table that holds nothing.
-pub calls-hold-from-empty : {u : Table} {ops : List Operation} {rs : List Reply} → Every OfBytes ops → Calls (storeTable []) ops rs u
-    → Stores u (afterAll [] ops) × (rs ≡ repliesTo [] ops)
-calls-hold-from-empty b xs = calls-hold [] (meets-nil, refl) b xs
+pub calls-hold-from-empty : {u : Table} {ops : List Operation} {rs : List Reply} → Every OfBytes ops → Calls (storeTable nothing) ops rs u
+    → Stores u (afterAll nothing ops) × (rs ≡ repliesTo nothing ops)
+calls-hold-from-empty b xs = calls-hold nothing (meets-nil, refl) b xs
 
 -- And there are such calls, whatever the operations: the contracts admit this run and, by the above, no other.
 pub calls-exist : {t : Table} (c : Content) (ops : List Operation) → Stores t c → Every OfBytes ops

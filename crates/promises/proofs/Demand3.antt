@@ -1,4 +1,4 @@
--- Better reception never contradicts worse (document 00, demand 3), said of calls. In order: the notes; what copy_out then gives; that
+-- Better reception never contradicts worse (document 00, demand 3). Below, of calls, in order: the notes; what copy_out then gives; that
 -- copy_out then gives a set.
 use Prim.Native.Nat.{ℕ, suc, _≤_}
 use mathlib.Core.Path.{_≡_}
@@ -7,9 +7,8 @@ use lib.ListN.{length, take, getElem?}
 use Rattle.rules.specs.Field.{Field, keyOf}
 use Rattle.rules.specs.Collecting.{Content, Shown}
 use Rattle.rules.specs.Outcomes.{numberOf}
-use Rattle.rules.specs.Demand3.{Operation, Worse, ShowsAt, keyCount}
+use Rattle.promises.specs.Demand3.{Operation, Worse, ShowsAt, keyCount}
 use Rattle.rules.proofs.Basics.{Every, every-take}
-use Rattle.rules.proofs.Demand3.{better-never-contradicts}
 use Rattle.table.specs.declared.Table.{Table}
 use Rattle.table.specs.declared.Copied.{Copied}
 use Rattle.promises.proofs.Contracts.{CopiesOut}
@@ -18,6 +17,8 @@ use Rattle.promises.proofs.Calls.{Reply, Calls, OfBytes, NotedShown, Fi
 use Rattle.promises.proofs.CallLaws.{copy-call, copy-shown, reply-shows, shows-reply}
 use Rattle.promises.proofs.Receptions.{shown-key, shows-cut, showing-after, same-operation, better-found}
 use Rattle.promises.proofs.Demand2.{calls-hold}
+-- the promise of the rules themselves; why it needs its premises is in Needed.antt
+pub use Rattle.promises.proofs.Better.{better-never-contradicts}
 
 -- the set that note 2 at place j of the last reply of a cut run says came to be shown, with the key of that field
 cut-shows : (t : Table) (c : Content) → Stores t c → (ops : List Operation) → Every OfBytes ops → {u : Table} {rs : List Reply}

@@ -2,14 +2,13 @@
 -- block, a recording, forgetting; loading a sheet; the table that holds nothing.
 use Prim.Native.Nat.{ℕ, _<_}
 use mathlib.Core.Path.{_≡_, ap}
-use mathlib.Core.List.{List, []}
+use mathlib.Core.List.{List}
 use lib.ListN.{getD}
-use Rattle.rules.specs.Family.{forget}
-use Rattle.rules.specs.Collecting.{linkage}
-use Rattle.rules.specs.Outcomes.{readBlock, readRecording}
+use Rattle.rules.specs.Collecting.{nothing}
+use Rattle.rules.specs.Outcomes.{readBlock, readRecording, forgotten}
 use Rattle.rules.proofs.TableRules.{meets-nil}
 use Rattle.rules.proofs.LinkageLaws.{block-keeps, recording-keeps, forget-keeps}
-use Rattle.rules.proofs.SheetLaws.{load-meets}
+use Rattle.layout.proofs.Laws.{load-meets}
 use Rattle.table.specs.declared.Table.{Table}
 use Rattle.table.specs.declared.Forgotten.{Forgotten}
 use Rattle.table.specs.Stored.{storeTable, Stored, stored, notStored}
@@ -33,7 +32,7 @@ read-recording-keeps t bytes r b s (notStored n a) = absurd (n s)
 
 pub forget-key-keeps : (t : Table) (k : ℕ) (r : Forgotten) → Stored t → Forgets t k r → Stored (r .table)
 unfolding Stored forgottenAs
-forget-key-keeps t k r s (stored c f p a) = (forget linkage k c, forget-keeps k c f, ap (λ (x : Forgotten). x .table) a)
+forget-key-keeps t k r s (stored c f p a) = (forgotten k c, forget-keeps k c f, ap (λ (x : Forgotten). x .table) a)
 forget-key-keeps t k r s (notStored n a) = absurd (n s)
 
 -- a loaded table meets them, whatever the bytes
@@ -42,6 +41,6 @@ unfolding Stored
 load-sheet-meets bytes r a = (a .left, load-meets (a .load), a .stored)
 
 -- the table that holds nothing meets them
-pub empty-meets : (t : Table) → t ≡ storeTable [] → Stored t
+pub empty-meets : (t : Table) → t ≡ storeTable nothing → Stored t
 unfolding Stored
-empty-meets t e = ([], meets-nil, e)
+empty-meets t e = (nothing, meets-nil, e)

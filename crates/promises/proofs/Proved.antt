@@ -5,14 +5,15 @@ use prog.Wp.{Heap}
 use prog.Model.{Model}
 use prog.Routine.{Routine}
 use base.Logic.{emp}
-use contract.Monad.{fact}
+use contract.Monad.{fact, fact-mono, fm→mono}
 use contract.Lifetimes.{Lfts}
-use contract.Running.{GhostRules, Running}
+use contract.Running.{GhostRules, Running, givenOf}
 use denote.Ref.{now}
 use denote.Triple.Entry.{Args, Res}
-use denote.Triple.Clauses.{Ended, AtExit}
+use denote.Triple.Clauses.{Ended, AtExit, atExit}
 use denote.Triple.Spec.{Meets, exits}
-use Rattle.sheet.specs.Writing.{notWritten}
+use denote.Triple.Weaken.{weaken}
+use denote.Triple.Table.{run-framed}
 use Rattle.sheet.specs.Loading.{Loads}
 use Rattle.reading.proofs.read_block as read-block
 use Rattle.reading.proofs.read_recording as read-recording
@@ -36,6 +37,17 @@ Promised e code P M = (𝓤 : URA M) (H : Heap 𝓤) (𝓜 : Model 𝓤 H) (𝓖
       requires = λ _. emp 𝓤;
       ensures = λ _ r. exits 𝓤 H (𝓖 .A) (e .signature) (e .kept) κs a (λ z. fact 𝓤 (P κs a r z));
     })
+
+-- and so of what follows from it
+pub promised-so : {M : Type 1} (e : Ended) (code : Routine)
+    (P Q : (κs : Lfts (e .signature .lifetimes)) → Args (e .signature) κs → Res (e .signature) κs → AtExit e κs → Type 0)
+    → ((κs : Lfts (e .signature .lifetimes)) (a : Args (e .signature) κs) (r : Res (e .signature) κs) (z : AtExit e κs) → P κs a r z → Q κs a r z)
+    → Promised e code P M → Promised e code Q M
+promised-so e code P Q h p 𝓤 H 𝓜 𝓖 𝓡 =
+    weaken 𝓤 H (𝓖 .A) e (givenOf 𝓤 H 𝓜 𝓖) (λ κs a. record { ghost = Unit {0}; requires = λ _. emp 𝓤; ensures = λ _ r z. fact 𝓤 (P κs a r z) })
+    (λ κs a _ r z. fact 𝓤 (Q κs a r z))
+    (λ κs a _ r ws. fact-mono 𝓤 (P κs a r (atExit e κs a ws)) (Q κs a r (atExit e κs a ws)) (h κs a r (atExit e κs a ws)))
+    (𝓡 .run code) (λ vs. fm→mono 𝓤 (𝓡 .run code vs) (run-framed 𝓤 H 𝓜 𝓡 code vs)) (p 𝓤 H 𝓜 𝓖 𝓡)
 
 pub read-block-proved : {M : Type 1}
     → Promised read-block.ended read-block.Symbol.routine (λ κs a r z. ReadsBlock (a .0) (now (a .1 .0)) r) M
@@ -64,7 +76,6 @@ write-columns-proved = write-columns.Met.met
 
 pub write-sheet-proved : {M : Type 1}
     → Promised write-sheet.ended write-sheet.Symbol.routine (λ κs a r z. WritesSheet (a .0) (now (a .1 .0)) r (now (z .1 .0))) M
-unfolding notWritten
 write-sheet-proved = write-sheet.Met.met
 
 pub write-air-proved : {M : Type 1}

@@ -9,16 +9,17 @@ use lib.ListN.{length, take}
 use Rattle.rules.specs.declared.Outcome.the-variants.{Done}
 use Rattle.rules.specs.Collecting.{Content, meets}
 use Rattle.rules.specs.Outcomes.{numberOf, overwritten}
-use Rattle.rules.specs.Sheet.{sheet, justShown, Load}
-use Rattle.rules.proofs.SheetLaws.{sheet-most, load-meets, load-written, load-again}
+use Rattle.layout.specs.Sheet.{sheet, justShown, Load}
+use Rattle.layout.proofs.Laws.{sheet-most, load-meets, load-written, load-again}
 use Rattle.table.specs.declared.Table.{Table}
 use Rattle.table.specs.Stored.{storeTable, Stored}
 use Rattle.out.specs.declared.Written.{Written}
+use Rattle.out.proofs.Answers.{output-bytes}
 use Rattle.sheet.specs.declared.Loaded.{Loaded}
 use Rattle.sheet.specs.Loading.{Loads}
 use Rattle.promises.proofs.Contracts.{WritesSheet}
 use Rattle.promises.proofs.Writing.{write-sheet-answers}
-use Rattle.promises.proofs.Buffers.{write-done, write-bytes, write-most, write-enough}
+use Rattle.promises.proofs.Buffers.{write-done, write-most, write-enough}
 
 module _ (t : Table) (old : List ℕ) (r : Written) (new : List ℕ) (w : WritesSheet t old r new) where
   pub write-sheet-size : r .size ≤ 24801
@@ -31,7 +32,7 @@ module _ (t : Table) (old : List ℕ) (r : Written) (new : List ℕ) (w : Writes
   pub write-sheet-loads : numberOf (r .outcome) ≡ 0 → (c : Content) → meets c ≡ true → t ≡ storeTable c
       → (q : Loaded) → Loads (take (r .size) new) q → (q .outcome ≡ Done) × (q .table ≡ storeTable (justShown c))
   write-sheet-loads done c m e q a =
-      let b = write-bytes sheet t old r new (write-sheet-answers t old r new w) done c m e in
+      let b = output-bytes sheet t old r new w done c m e in
       let l = load-written c m (subst (λ (bytes : List ℕ). Load bytes (q .outcome) (a .left)) b (a .load)) in
       (l .0, a .stored ∙ ap storeTable (l .1))
 
@@ -41,4 +42,4 @@ pub load-sheet-writes : (bytes old : List ℕ) (q : Loaded) (r : Written) (new :
     → (numberOf (r .outcome) ≡ 0) × (r .size ≡ length bytes) × (new ≡ overwritten bytes old)
 load-sheet-writes bytes old q r new a o w h =
     let e : sheet (a .left) ≡ bytes = load-again (rw o at (a .load)) in
-    rw e at (write-done sheet (q .table) old r new (write-sheet-answers (q .table) old r new w) (a .left) (load-meets (a .load)) (a .stored) (rw e h))
+    rw e at (write-done sheet (q .table) old r new w (a .left) (load-meets (a .load)) (a .stored) (rw e h))

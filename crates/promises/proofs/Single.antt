@@ -8,30 +8,31 @@ use mathlib.Core.List.{List}
 use Rattle.rules.specs.Collecting.{Content}
 use Rattle.rules.specs.Outcomes.{readBlock, copyOut}
 use Rattle.rules.specs.Outcomes as Outcomes
-use Rattle.rules.specs.Air.{air, writtenTo}
-use Rattle.rules.specs.Air as Air
-use Rattle.rules.specs.Sheet.{sheet}
-use Rattle.rules.specs.Listing.{listing}
-use Rattle.rules.proofs.SheetLaws.{load-single}
+use Rattle.pieces.specs.Air.{air}
+use Rattle.out.specs.Writing.{writtenTo}
+use Rattle.out.specs.Writing as Writing
+use Rattle.layout.specs.Sheet.{sheet}
+use Rattle.text.specs.Listing.{listing}
+use Rattle.layout.proofs.Laws.{load-single}
 use Rattle.lists.specs.Stored.{Tested}
 use Rattle.table.specs.declared.Table.{Table}
 use Rattle.table.specs.declared.Forgotten.{Forgotten}
 use Rattle.table.specs.declared.Copied.{Copied}
 use Rattle.table.specs.Stored.{storeTable, Stored, Given, stored, notStored}
 use Rattle.table.specs.Answers.{forgottenAs, copiedAs}
+use Rattle.table.proofs.GivenLaws.{given-content}
 use Rattle.reading.specs.declared.Answer.{Answer}
 use Rattle.reading.specs.declared.Recorded.{Recorded}
 use Rattle.reading.specs.Runs.{runAs, recordedAs}
 use Rattle.out.specs.declared.Written.{Written}
 use Rattle.out.specs.Put.{Puts}
-use Rattle.out.specs.Answer.{writtenAs}
+use Rattle.out.specs.Answer.{writtenAs, Outputs}
 use Rattle.sheet.specs.declared.Loaded.{Loaded}
 use Rattle.sheet.specs.Loading.{Loads}
 use Rattle.columns.specs.Columns.{columns}
 use Rattle.outputs.specs.declared.Output.{Output}
 use Rattle.outputs.specs.Output.{outputOf}
-use Rattle.promises.proofs.Contracts.{ReadsBlock, ReadsRecording, Forgets, CopiesOut, Outputs, WritesListing, WritesColumns, WritesSheet, WritesAir, WritesOutput}
-use Rattle.promises.proofs.Injective.{same-content}
+use Rattle.promises.proofs.Contracts.{ReadsBlock, ReadsRecording, Forgets, CopiesOut, WritesListing, WritesColumns, WritesSheet, WritesAir, WritesOutput}
 
 -- a result that an equation says
 pub equal-single : {A : Type 0} {x y z : A} → x ≡ z → y ≡ z → x ≡ y
@@ -45,8 +46,7 @@ puts-single a b = (equal-single (a .stored) (b .stored), equal-single (a .after)
 -- where an answer is what the content gives, or else one certain thing, two answers are the same
 pub given-single : {A : Type 0} (t : Table) (x y z : A) (F : Content → A) → Given t (λ c. x ≡ F c) (x ≡ z) → Given t (λ c. y ≡ F c) (y ≡ z) → x ≡ y
 unfolding Stored
-given-single t x y z F (stored c f p a) (stored d g q b) = a ∙ ap F (same-content t c d f g p q) ∙ sym b
-given-single t x y z F (stored c f p a) (notStored n b) = absurd (n (c, f, p))
+given-single t x y z F (stored c f p a) b = a ∙ sym (given-content c f p b)
 given-single t x y z F (notStored n a) (stored d g q b) = absurd (n (d, g, q))
 given-single t x y z F (notStored n a) (notStored m b) = a ∙ sym b
 
@@ -76,7 +76,7 @@ copy-out-single t k ns ks r q nr kr nq kq a b =
 -- an answer and its buffer, taken apart
 written-apart : (r q : Written) (a b : List ℕ) → writtenAs r a ≡ writtenAs q b → (r ≡ q) × (a ≡ b)
 unfolding writtenAs
-written-apart r q a b e = (λ i. record { outcome = e i .outcome; size = e i .size }, ap (λ (w : Air.Written). w .buffer) e)
+written-apart r q a b e = (λ i. record { outcome = e i .outcome; size = e i .size }, ap (λ (w : Writing.Written). w .buffer) e)
 
 pub write-single : (F : Content → List ℕ) (t : Table) (old : List ℕ) (r q : Written) (new other : List ℕ)
     → Outputs F t old r new → Outputs F t old q other → (r ≡ q) × (new ≡ other)

@@ -4,28 +4,40 @@
 use Prim.Native.Nat.{ℕ, _≤_, _<_}
 use mathlib.Core.Path.{_≡_, ap, _∙_}
 use mathlib.Core.Bool.{Bool, true}
-use mathlib.Core.List.{List, [], _++_}
+use mathlib.Core.List.{List, _++_}
 use lib.ListN.{length, drop}
 use lib.Dec.{ltb}
 use borrow.Author.Tests.{ltb-true, ltb-false}
-use Rattle.rules.specs.declared.Outcome.the-variants.{Done, ShortBuffer}
-use Rattle.rules.specs.Collecting.{Content, meets}
+use Rattle.rules.specs.declared.Outcome.{Outcome}
+use Rattle.rules.specs.declared.Outcome.the-variants.{Done, ShortBuffer, WrongTable}
+use Rattle.rules.specs.Collecting.{Content, nothing, meets}
 use Rattle.rules.specs.Outcomes.{numberOf, overwritten}
-use Rattle.rules.specs.Air.{air, writtenTo}
-use Rattle.rules.specs.Air as Air
-use Rattle.rules.specs.Sheet.{sheet, justShown, Load, accepted, notASheet}
-use Rattle.rules.specs.Listing.{listing}
+use Rattle.pieces.specs.Air.{air}
+use Rattle.out.specs.Writing.{writtenTo}
+use Rattle.out.specs.Writing as Writing
+use Rattle.layout.specs.Sheet.{sheet, justShown, Load, accepted, notASheet}
+use Rattle.text.specs.Listing.{listing}
 use Rattle.rules.proofs.Basics.{cases-bool}
 use Rattle.table.specs.declared.Table.{Table}
 use Rattle.table.specs.Stored.{storeTable, Stored, stored, notStored}
 use Rattle.out.specs.declared.Written.{Written}
-use Rattle.out.specs.Answer.{writtenAs}
+use Rattle.out.specs.Answer.{writtenAs, Outputs}
 use Rattle.sheet.specs.declared.Loaded.{Loaded}
 use Rattle.sheet.specs.Loading.{Loads}
 use Rattle.columns.specs.Columns.{columns}
 use Rattle.outputs.specs.declared.Output.{Output}
 use Rattle.outputs.specs.Output.{outputOf}
-use Rattle.promises.proofs.Contracts.{Outputs, WritesListing, WritesColumns, WritesSheet, WritesAir, WritesOutput}
+use Rattle.promises.proofs.Contracts.{WritesListing, WritesColumns, WritesSheet, WritesAir, WritesOutput}
+
+-- the parts of an answer and its buffer
+pub written-is : (r : Written) (new : List ℕ) (o : Outcome) (n : ℕ) (b : List ℕ) → writtenAs r new ≡ record { outcome = o; size = n; buffer = b }
+    → (numberOf (r .outcome) ≡ numberOf o) × (r .size ≡ n) × (new ≡ b)
+unfolding writtenAs
+written-is r new o n b e = (
+  ap (λ (w : Writing.Written). numberOf (w .outcome)) e,
+  ap (λ (w : Writing.Written). w .size) e,
+  ap (λ (w : Writing.Written). w .buffer) e,
+)
 
 module _ (F : Content → List ℕ) (t : Table) (old : List ℕ) (r : Written) (new : List ℕ) where
   pub data WriteAnswer : Type 0 where
@@ -38,17 +50,12 @@ module _ (F : Content → List ℕ) (t : Table) (old : List ℕ) (r : Written) (
     noTable : (Stored t → ⊥) → numberOf (r .outcome) ≡ 9 → r .size ≡ 0 → new ≡ old → WriteAnswer
 
   pub write-answers : Outputs F t old r new → WriteAnswer
-  unfolding writtenAs writtenTo overwritten numberOf
+  unfolding writtenTo overwritten numberOf
   write-answers (stored c m e p) =
       cases-bool (ltb (length old) (length (F c)))
-      (λ h.
-      let q : writtenAs r new ≡ record { outcome = ShortBuffer; size = 0; buffer = old } = p ∙ rw h in
-      tooShort c m e (ltb-true _ _ h) (ap (λ (w : Air.Written). numberOf (w .outcome)) q) (ap (λ (w : Air.Written). w .size) q) (ap (λ (w : Air.Written). w .buffer) q))
-      (λ h.
-      let q : writtenAs r new ≡ record { outcome = Done; size = length (F c); buffer = F c ++ drop (length (F c)) old } = p ∙ rw h in
-      written c m e (ltb-false _ _ h) (ap (λ (w : Air.Written). numberOf (w .outcome)) q) (ap (λ (w : Air.Written). w .size) q) (ap (λ (w : Air.Written). w .buffer) q))
-  write-answers (notStored n p) =
-      noTable n (ap (λ (w : Air.Written). numberOf (w .outcome)) p) (ap (λ (w : Air.Written). w .size) p) (ap (λ (w : Air.Written). w .buffer) p)
+      (λ h. let q = written-is r new ShortBuffer 0 old (p ∙ rw h) in tooShort c m e (ltb-true _ _ h) (q .0) (q .1) (q .2))
+      (λ h. let q = written-is r new Done (length (F c)) (F c ++ drop (length (F c)) old) (p ∙ rw h) in written c m e (ltb-false _ _ h) (q .0) (q .1) (q .2))
+  write-answers (notStored n p) = let q = written-is r new WrongTable 0 old p in noTable n (q .0) (q .1) (q .2)
 
 pub write-listing-answers : (t : Table) (over : ℕ) (old : List ℕ) (r : Written) (new : List ℕ)
     → WritesListing t over old r new → WriteAnswer (λ c. listing c over) t old r new
@@ -72,7 +79,7 @@ pub data LoadAnswer (bytes : List ℕ) (r : Loaded) : Type 0 where
   -- 0: some table writes these bytes; what it shows is held
   loaded : (c : Content) → meets c ≡ true → sheet c ≡ bytes → numberOf (r .outcome) ≡ 0 → r .table ≡ storeTable (justShown c) → LoadAnswer bytes r
   -- 10: none does; the table is empty
-  noSheet : ((c : Content) → meets c ≡ true → sheet c ≡ bytes → ⊥) → numberOf (r .outcome) ≡ 10 → r .table ≡ storeTable [] → LoadAnswer bytes r
+  noSheet : ((c : Content) → meets c ≡ true → sheet c ≡ bytes → ⊥) → numberOf (r .outcome) ≡ 10 → r .table ≡ storeTable nothing → LoadAnswer bytes r
 
 load-by : (bytes : List ℕ) (r : Loaded) (left : Content) → Load bytes (r .outcome) left → r .table ≡ storeTable left → LoadAnswer bytes r
 unfolding numberOf
@@ -81,3 +88,8 @@ load-by bytes r left (notASheet n o l) e = noSheet n (ap numberOf o) (e ∙ ap s
 
 pub load-sheet-answers : (bytes : List ℕ) (r : Loaded) → Loads bytes r → LoadAnswer bytes r
 load-sheet-answers bytes r l = load-by bytes r (l .left) (l .load) (l .stored)
+
+-- a refusal hands back the empty table
+pub load-sheet-refused : (bytes : List ℕ) (r : Loaded) → LoadAnswer bytes r → (numberOf (r .outcome) ≡ 0 → ⊥) → r .table ≡ storeTable nothing
+load-sheet-refused bytes r (loaded c m s o e) h = absurd (h o)
+load-sheet-refused bytes r (noSheet n o e) h = e

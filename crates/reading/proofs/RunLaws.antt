@@ -19,7 +19,7 @@ use Rattle.rules.specs.declared.Note.{Note}
 use Rattle.rules.specs.declared.Note.the-variants.{Opened}
 use Rattle.rules.specs.Field.{Field as FieldOf}
 use Rattle.rules.specs.Family.{step, steps, dropOpen}
-use Rattle.rules.specs.Collecting.{linkage, Content, said, meets}
+use Rattle.rules.specs.Collecting.{linkage, Entries, Content, withSets, said, setsMeet, meets}
 use Rattle.rules.specs.Outcomes.{taken, refused, verdict, Answer, readBlock, readBlocks, readRecording, leftOver}
 use Rattle.rules.proofs.Basics.{Every, cases-bool}
 use Rattle.rules.proofs.Taken.{GoodField, taken-good}
@@ -27,7 +27,9 @@ use Rattle.rules.proofs.TableRules.{Meets, table-meets}
 use Rattle.rules.proofs.LinkageLaws.{meets-steps, meets-drop-open, answer-taken, answer-refused, bytes-list, no-block}
 use Rattle.rules.proofs.Arrays.{set-column}
 use Rattle.table.specs.declared.Table.{Table}
-use Rattle.table.specs.Stored.{storeTable}
+use Rattle.table.specs.Stored.{tableOf, storeTable}
+use Rattle.sets.specs.declared.Sets.{Sets}
+use Rattle.sets.specs.Stored.{storeSets}
 use Rattle.block.specs.declared.Spots.{Spots}
 use Rattle.block.specs.Judged.{noSpots, noSpot}
 use Rattle.block.proofs.Meaning.{SpotIs, noField, Placed}
@@ -52,17 +54,17 @@ note-more ns n h =
 
 -- the answer to the present block, with these notes so far and these fields still to come
 unfoldable pub resumed : Outcome → List Note → Content → List FieldOf → Answer
-resumed o ns c gs = record { outcome = o; notes = ns ++ steps linkage c (map said gs) .1; left = steps linkage c (map said gs) .0 }
+resumed o ns c gs = record { outcome = o; notes = ns ++ steps linkage (c .sets) (map said gs) .1; left = withSets c (steps linkage (c .sets) (map said gs) .0) }
 
 -- the table stores a content that meets the rules; the spots place the fields of the present block; the notes are those of
 -- the fields passed; what is left to do makes the whole
-pub record Going (bytes : List ℕ) (t₀ t : Table) (notes : Notes) (outcome : Outcome) (spots : Spots) (from at i : ℕ) : Type 0 where
+pub record Going (bytes : List ℕ) (t₀ : Table) (t : Sets) (notes : Notes) (outcome : Outcome) (spots : Spots) (from at i : ℕ) : Type 0 where
   pub first : Content
   pub first-meets : meets first ≡ true
   pub first-stored : t₀ ≡ storeTable first
   pub now' : Content
   pub now-meets : meets now' ≡ true
-  pub stored : t ≡ storeTable now'
+  pub stored : t ≡ storeSets (now' .sets)
   pub fields : List FieldOf
   pub placed : Placed (take 32 (drop from bytes)) spots fields
   pub good : Every GoodField fields
@@ -82,7 +84,7 @@ unfolding resumed steps
 resumed-none o ns c = ap (λ (m : List Note). record { outcome = o; notes = m; left = c }) (append-nil ns)
 
 pub going-first : (bytes : List ℕ) (t : Table) (notes : Notes) (spots : Spots) (c : Content) → meets c ≡ true → t ≡ storeTable c → notes ≡ noNotes → spots ≡ noSpots
-    → Going bytes t t notes Done spots 0 0 0
+    → Going bytes t (t .sets) notes Done spots 0 0 0
 unfolding noSpots begun
 going-first bytes t notes spots c m e n s =
     record {
@@ -91,7 +93,7 @@ going-first bytes t notes spots c m e n s =
       first-stored = e;
       now' = c;
       now-meets = m;
-      stored = e;
+      stored = ap (λ (u : Table). u .sets) e;
       fields = [];
       placed = placed-none _ spots (ap (λ (x : Spots). x .count) s);
       good = tt;
@@ -114,17 +116,17 @@ every-get P d [] i e h = absurd (not-suc-le-zero h)
 every-get P d (x ∷ xs) zero e h = e .0
 every-get P d (x ∷ xs) (suc i) e h = every-get P d xs i (e .1) (le-of-suc-le-suc h)
 
-resumed-step : (o : Outcome) (ns : List Note) (c c' : Content) (n : Note) (g : FieldOf) (gs : List FieldOf) → step linkage c (said g) ≡ (c', n)
-    → resumed o ns c (g ∷ gs) ≡ resumed o (ns ++ n ∷ []) c' gs
+resumed-step : (o : Outcome) (ns : List Note) (c : Content) (c' : Entries) (n : Note) (g : FieldOf) (gs : List FieldOf) → step linkage (c .sets) (said g) ≡ (c', n)
+    → resumed o ns c (g ∷ gs) ≡ resumed o (ns ++ n ∷ []) (withSets c c') gs
 unfolding resumed steps
 resumed-step o ns c c' n g gs e =
-    ap (λ (r : Content × Note). record { outcome = o; notes = ns ++ r .1 ∷ steps linkage (r .0) (map said gs) .1; left = steps linkage (r .0) (map said gs) .0 }) e
-    ∙ ap (λ (m : List Note). record { outcome = o; notes = m; left = steps linkage c' (map said gs) .0 }) (sym (append-snoc ns n (steps linkage c' (map said gs) .1)))
+    ap (λ (r : Entries × Note). record { outcome = o; notes = ns ++ r .1 ∷ steps linkage (r .0) (map said gs) .1; left = withSets c (steps linkage (r .0) (map said gs) .0) }) e
+    ∙ ap (λ (m : List Note). record { outcome = o; notes = m; left = withSets c (steps linkage c' (map said gs) .0) }) (sym (append-snoc ns n (steps linkage c' (map said gs) .1)))
 
-step-meets : (c c' : Content) (n : Note) (g : FieldOf) → GoodField g → meets c ≡ true → step linkage c (said g) ≡ (c', n) → meets c' ≡ true
+step-meets : (c c' : Entries) (n : Note) (g : FieldOf) → GoodField g → setsMeet c ≡ true → step linkage c (said g) ≡ (c', n) → setsMeet c' ≡ true
 unfolding steps
 step-meets c c' n g good m e =
-    table-meets c' .1 (subst Meets (ap (λ (r : Content × Note). r .0) e) (meets-steps c (g ∷ []) (good, tt) (table-meets c .0 m)))
+    table-meets c' .1 (subst Meets (ap (λ (r : Entries × Note). r .0) e) (meets-steps c (g ∷ []) (good, tt) (table-meets c .0 m)))
 
 -- bytes of a part
 pub part-bytes : (n at : ℕ) (bytes : List ℕ) → ((j : ℕ) → getD bytes j 0 < 256) → (j : ℕ) → getD (take n (drop at bytes)) j 0 < 256
@@ -133,7 +135,7 @@ part-bytes n at bytes b j =
     (λ h. rw (getD-take n (drop at bytes) j 0 (ltb-true j n h), getD-drop at bytes j 0) (b (at + j)))
     (λ h. rw (List·getD-eq-default (take n (drop at bytes)) 0 {n = j} (rw (length-take n (drop at bytes)) (omega (arith, ltb-false j n h)))) (omega arith))
 
-module _ (bytes : List ℕ) (t₀ t : Table) (notes : Notes) (o : Outcome) (spots : Spots) (from at i : ℕ) (G : Going bytes t₀ t notes o spots from at i) where
+module _ (bytes : List ℕ) (t₀ : Table) (t : Sets) (notes : Notes) (o : Outcome) (spots : Spots) (from at i : ℕ) (G : Going bytes t₀ t notes o spots from at i) where
   -- the present field
   pub field-now : FieldOf
   field-now = getD (G .fields) i noField
@@ -152,16 +154,16 @@ module _ (bytes : List ℕ) (t₀ t : Table) (notes : Notes) (o : Outcome) (spot
   pub few-fields : i < spots .count → i < 14
   few-fields h = omega (arith, G .placed .few, more-fields h)
 
-  pub going-next : i < spots .count → (t' : Table) (notes' : Notes) (n : Note) (c' : Content) → step linkage (G .now') (said field-now) ≡ (c', n)
-      → t' ≡ storeTable c' → notes' ≡ notedAt notes i n → Going bytes t₀ t' notes' o spots from at (i + 1)
+  pub going-next : i < spots .count → (t' : Sets) (notes' : Notes) (n : Note) (c' : Entries) → step linkage (G .now' .sets) (said field-now) ≡ (c', n)
+      → t' ≡ storeSets c' → notes' ≡ notedAt notes i n → Going bytes t₀ t' notes' o spots from at (i + 1)
   unfolding field-now
   going-next h t' notes' n c' e s q =
       record {
         first = G .first;
         first-meets = G .first-meets;
         first-stored = G .first-stored;
-        now' = c';
-        now-meets = step-meets (G .now') c' n (getD (G .fields) i noField) (good-now h) (G .now-meets) e;
+        now' = withSets (G .now') c';
+        now-meets = step-meets (G .now' .sets) c' n (getD (G .fields) i noField) (good-now h) (G .now-meets) e;
         stored = s;
         fields = G .fields;
         placed = G .placed;
@@ -177,7 +179,7 @@ module _ (bytes : List ℕ) (t₀ t : Table) (notes : Notes) (o : Outcome) (spot
             ∙ ap (λ (a : Answer). runBlocks ((length bytes - at) / 32) a (drop at bytes))
             (ap (resumed o (G .noted) (G .now')) (drop-cons (G .fields) i noField (more-fields h))
             ∙ resumed-step o (G .noted) (G .now') c' n (getD (G .fields) i noField) (drop (suc i) (G .fields)) e
-            ∙ ap (λ (k : ℕ). resumed o (G .noted ++ n ∷ []) c' (drop k (G .fields))) (sym (add-one i)));
+            ∙ ap (λ (k : ℕ). resumed o (G .noted ++ n ∷ []) (withSets (G .now') c') (drop k (G .fields))) (sym (add-one i)));
       }
 
   -- ---- a block more
@@ -226,19 +228,19 @@ module _ (bytes : List ℕ) (t₀ t : Table) (notes : Notes) (o : Outcome) (spot
             answer-block h l
             ∙ ap (λ (a : Answer). runBlocks ((length bytes - (at + 32)) / 32) a (drop (at + 32) bytes))
             (answer-taken (G .now') (take 32 (drop at bytes)) fs v
-            ∙ ap (λ (x : Outcome). record { outcome = x; notes = steps linkage (G .now') (map said fs) .1; left = steps linkage (G .now') (map said fs) .0 }) (sym d));
+            ∙ ap (λ (x : Outcome). record { outcome = x; notes = steps linkage (G .now' .sets) (map said fs) .1; left = withSets (G .now') (steps linkage (G .now' .sets) (map said fs) .0) }) (sym d));
       }
 
-  pub going-refused : spots .count ≤ i → 32 ≤ length bytes - at → (t' : Table) (spots' : Spots) (notes' : Notes) (o' p : Outcome)
-      → verdict (take 32 (drop at bytes)) ≡ refused p → o' ≡ p → spots' .count ≡ 0 → notes' ≡ noNotes → t' ≡ storeTable (dropOpen linkage (G .now'))
+  pub going-refused : spots .count ≤ i → 32 ≤ length bytes - at → (t' : Sets) (spots' : Spots) (notes' : Notes) (o' p : Outcome)
+      → verdict (take 32 (drop at bytes)) ≡ refused p → o' ≡ p → spots' .count ≡ 0 → notes' ≡ noNotes → t' ≡ storeSets (dropOpen linkage (G .now' .sets))
       → Going bytes t₀ t' notes' o' spots' at (at + 32) 0
   going-refused h l t' spots' notes' o' p v d z n s =
       record {
         first = G .first;
         first-meets = G .first-meets;
         first-stored = G .first-stored;
-        now' = dropOpen linkage (G .now');
-        now-meets = table-meets _ .1 (meets-drop-open (G .now') (table-meets _ .0 (G .now-meets)));
+        now' = withSets (G .now') (dropOpen linkage (G .now' .sets));
+        now-meets = table-meets _ .1 (meets-drop-open (G .now' .sets) (table-meets _ .0 (G .now-meets)));
         stored = s;
         fields = [];
         placed = placed-none _ spots' z;
@@ -253,21 +255,21 @@ module _ (bytes : List ℕ) (t₀ t : Table) (notes : Notes) (o : Outcome) (spot
             answer-block h l
             ∙ ap (λ (a : Answer). runBlocks ((length bytes - (at + 32)) / 32) a (drop (at + 32) bytes))
             (answer-refused (G .now') (take 32 (drop at bytes)) p v
-            ∙ ap (λ (x : Outcome). record { outcome = x; notes = []; left = dropOpen linkage (G .now') }) (sym d)
-            ∙ sym (resumed-none o' [] (dropOpen linkage (G .now'))));
+            ∙ ap (λ (x : Outcome). record { outcome = x; notes = []; left = withSets (G .now') (dropOpen linkage (G .now' .sets)) }) (sym d)
+            ∙ sym (resumed-none o' [] (withSets (G .now') (dropOpen linkage (G .now' .sets)))));
       }
 
   -- ---- the end
 
-  pub going-end : spots .count ≤ i → length bytes - at < 32 → Runs t₀ bytes (record { outcome = o; notes = notes; table = t })
+  pub going-end : spots .count ≤ i → length bytes - at < 32 → (u : Table) → u ≡ tableOf t → Runs t₀ bytes (record { outcome = o; notes = notes; table = u })
   unfolding Runs runAs runBlocks
-  going-end h l =
+  going-end h l u q =
       let e : (length bytes - at) / 32 ≡ 0 = omega arith in
       let whole = answer-now h ∙ ap (λ (n : ℕ). runBlocks n (record { outcome = o; notes = G .noted; left = G .now' }) (drop at bytes)) e in (
         G .first,
         G .first-meets,
         G .first-stored,
-        (λ j. record { outcome = o; notes = G .notes-are j; table = G .stored j }) ∙ ap runAs (sym whole),
+        (λ j. record { outcome = o; notes = G .notes-are j; table = (q ∙ ap tableOf (G .stored)) j }) ∙ ap runAs (sym whole),
       )
 
 -- ---- one block, and a whole recording
@@ -294,4 +296,4 @@ pub recorded : (c : Content) (bytes : List ℕ) (a : Run) → a ≡ runAs (runBl
 unfolding recordedAs leftOver readRecording runAs begun
 recorded c bytes a e =
     ap (λ (t : Table). record { outcome = Done; rest = length bytes % 32; table = t })
-    (ap (λ (x : Run). x .table) e ∙ ap storeTable (run-left (length bytes / 32) (begun c) bytes))
+    (ap (λ (x : Run). x .table) e ∙ ap (λ (d : Content). storeTable d) (run-left (length bytes / 32) (begun c) bytes))

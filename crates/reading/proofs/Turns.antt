@@ -8,7 +8,7 @@ use mathlib.Core.List.{List, [], _∷_, map}
 use mathlib.Core.Option.{none}
 use lib.ListN.{length-take, length-drop, length, getD, set, take, drop, replicate, length-map}
 use lib.Dec.{ltb, eqb}
-use lib.Seq.{take-take, drop-drop, set-getD}
+use lib.Seq.{take-take, drop-drop}
 use borrow.Author.Tests.{ltb-true, ltb-false, eqb-true, eqb-false, not-true}
 use Rattle.rules.specs.Arrays.{padded}
 use Rattle.rules.specs.declared.Outcome.{Outcome}
@@ -19,7 +19,7 @@ use Rattle.rules.specs.declared.Note.{Note}
 use Rattle.rules.specs.declared.Note.the-variants.{Opened, Full, UnknownKey}
 use Rattle.rules.specs.Field.{Field as FieldOf, keyOf}
 use Rattle.rules.specs.Family.{Act, start, continuation, noList, step, onHeld, fresh, insert, opening, dropOpen, closed, entryWith}
-use Rattle.rules.specs.Collecting.{linkage, Held, Content, said, actOf, brings, ascends, ifThere}
+use Rattle.rules.specs.Collecting.{linkage, Held, Entries, said, actOf, brings, ascends, ifThere}
 use Rattle.rules.proofs.FamilyLaws.{onHeld-key}
 use Rattle.rules.proofs.Basics.{cases-bool, and-left, and-right}
 use Rattle.rules.proofs.Arrays.{padded-replicate}
@@ -33,21 +33,21 @@ use Rattle.lists.specs.declared.Grown.{Grown}
 use Rattle.lists.specs.Stored.{storeList, emptyList, storeMaybe}
 use Rattle.lists.specs.Grown.{withField}
 use Rattle.lists.proofs.GrownLaws.{with-none}
+use Rattle.sets.specs.declared.Sets.{Sets}
 use Rattle.table.specs.declared.Table.{Table}
-use Rattle.table.specs.Stored.{onIn, shownIn, draftIn, storeTable, openedTable, past}
-use Rattle.table.specs.Stored as S
-use Rattle.table.specs.Places.{placeIn}
-use Rattle.table.proofs.Entries.{Here}
-use Rattle.table.proofs.GivenLaws.{is-here, not-past, not-other, place-at, count-of}
-use Rattle.table.proofs.CopyOut.{column-at, entry-at}
+use Rattle.sets.specs.Stored.{onIn, shownIn, draftIn, storeSets, openedSets, past}
+use Rattle.sets.specs.Stored as S
+use Rattle.sets.specs.Places.{placeIn}
+use Rattle.sets.proofs.Entries.{Here}
+use Rattle.sets.proofs.PlaceLaws.{stands, stands-not, place-at, count-of}
+use Rattle.sets.proofs.Entries.{column-at, entry-at}
 use Rattle.block.specs.declared.Spot.{Spot}
 use Rattle.block.specs.declared.Spots.{Spots}
 use Rattle.block.specs.declared.Judged.{Judged}
 use Rattle.block.specs.Judged.{fieldIn, noSpot}
 use Rattle.block.proofs.Meaning.{bodyAt, SpotIs, Placed, JudgedAs, isTaken, isRefused, isNoBlock}
-use Rattle.reading.specs.declared.Stepped.{Stepped}
 use Rattle.reading.specs.declared.Notes.{Notes}
-use Rattle.reading.specs.Steps.{isShowing, steppedAs, HeldStep, opensIn, unheldNote, notedAt, noNotes, isDone}
+use Rattle.reading.specs.Steps.{ListStep, isShowing, steppedAs, HeldStep, opensIn, unheldNote, notedAt, noNotes, isDone}
 use Rattle.reading.proofs.HeldLaws.{act-none, act-more, act-start}
 use Rattle.reading.proofs.StepLaws.{at', setAt, store-set, step-here, step-new, step-full, step-unknown-more, step-unknown-none, store-new, held-state, held-shown}
 use Rattle.reading.proofs.RunLaws.{Going, field-now, spot-now, good-now, more-fields, few-fields, going-next, going-taken, going-refused, part-bytes}
@@ -84,7 +84,7 @@ body-of bytes from s o e =
 
 -- ---- a turn at a field
 
-module _ (bytes : List ℕ) (t₀ t : Table) (notes : Notes) (o : Outcome) (spots : Spots) (from at i : ℕ) (G : Going bytes t₀ t notes o spots from at i)
+module _ (bytes : List ℕ) (t₀ : Table) (t : Sets) (notes : Notes) (o : Outcome) (spots : Spots) (from at i : ℕ) (G : Going bytes t₀ t notes o spots from at i)
     (h : i < spots .count) (body : List ℕ) (body-is : body ≡ bodyAt (take 32 (drop from bytes)) (getD (spots .spots) i noSpot))
     (f : Field) (f-is : f ≡ fieldIn body (getD (spots .spots) i noSpot .place)) (key : ℕ) (ke : key ≡ keyIn f) (p : ℕ) (p-is : p ≡ placeIn (take (t .count) (t .keys)) key) where
   abbrev at-place : ℕ
@@ -93,8 +93,8 @@ module _ (bytes : List ℕ) (t₀ t : Table) (notes : Notes) (o : Outcome) (spot
   g : FieldOf
   g = field-now bytes t₀ t notes o spots from at i G
 
-  c : Content
-  c = G .now'
+  c : Entries
+  c = G .now' .sets
 
   spot : SpotIs (take 32 (drop from bytes)) (getD (spots .spots) i noSpot) g
   unfolding g
@@ -125,15 +125,12 @@ module _ (bytes : List ℕ) (t₀ t : Table) (notes : Notes) (o : Outcome) (spot
   unfolding c
   here b =
       subst (Here c) key-is
-      (is-here t c (G .stored) p key p-is (ltb-true p (t .count) (and-left (ltb p (t .count)) _ b)) (eqb-true _ _ (and-right (ltb p (t .count)) _ b)))
+      (stands t c (G .stored) p key p-is b)
 
   nowhere : (ltb p (t .count) && eqb (getD (t .keys) p 0) key) ≡ false → Here c (keyOf g) → ⊥
   unfolding c
   nowhere b there =
-      let k : Here c key = subst (Here c) (sym key-is) there in
-      cases-bool (ltb p (t .count))
-      (λ l. not-other t c (G .stored) p key p-is (ltb-true p (t .count) l) (eqb-false _ _ (rw l at b)) k)
-      (λ l. not-past t c (G .stored) p key p-is (ltb-false p (t .count) l) k)
+      stands-not t c (G .stored) p key p-is b (subst (Here c) (sym key-is) there)
 
   place : p ≡ placeIn (map S.keyIn c) (keyOf g)
   unfolding c
@@ -141,7 +138,7 @@ module _ (bytes : List ℕ) (t₀ t : Table) (notes : Notes) (o : Outcome) (spot
 
   -- ---- a held key
 
-  module _ (b : (ltb p (t .count) && eqb (getD (t .keys) p 0) key) ≡ true) (r : Stepped)
+  module _ (b : (ltb p (t .count) && eqb (getD (t .keys) p 0) key) ≡ true) (r : ListStep)
       (held : HeldStep body f (getD (t .draft) p past) r) where
     j : ℕ
     j = placeIn (map S.keyIn c) (keyOf g)
@@ -153,17 +150,17 @@ module _ (bytes : List ℕ) (t₀ t : Table) (notes : Notes) (o : Outcome) (spot
     x : Held
     x = at' c (keyOf g)
 
-    column : {B : Type 0} (v : Held → B) (d e : B) (ys : Table → List B) → ys (storeTable c) ≡ padded 32 d (map v c) → getD (ys t) p e ≡ v x
+    column : {B : Type 0} (v : Held → B) (d e : B) (ys : Sets → List B) → ys (storeSets c) ≡ padded 32 d (map v c) → getD (ys t) p e ≡ v x
     unfolding c j x
     column v d e ys q =
-        ap₂ (λ (u : Table) (k : ℕ). getD (ys u) k e) (G .stored) place ∙ ap (λ (l : List _). getD l j e) q ∙ column-at v d e c j within
+        ap₂ (λ (u : Sets) (k : ℕ). getD (ys u) k e) (G .stored) place ∙ ap (λ (l : List _). getD l j e) q ∙ column-at v d e c j within
 
     shown-is : getD (t .shown) p past ≡ storeMaybe (x .shown)
-    unfolding storeTable shownIn
+    unfolding storeSets shownIn
     shown-is = column shownIn emptyList past (λ u. u .shown) refl
 
     draft-is : getD (t .draft) p past ≡ storeMaybe (x .draft)
-    unfolding storeTable draftIn
+    unfolding storeSets draftIn
     draft-is = column draftIn emptyList past (λ u. u .draft) refl
 
     draft-meets : ifThere (x .key) (x .draft) ≡ true
@@ -171,18 +168,18 @@ module _ (bytes : List ℕ) (t₀ t : Table) (notes : Notes) (o : Outcome) (spot
     draft-meets = entry-rules _ .0 (entry-at c (table-rules c .0 (G .now-meets) .entries) j within) .draft
 
     after : Held × Note
-    after = onHeld linkage x (eqb (g .la) 1) (actOf g)
+    after = onHeld linkage x (eqb (g .la) 1) tt (actOf g)
 
     result : r ≡ steppedAs after
     unfolding HeldStep after
     result =
         held x (eqb (g .la) 1) at-place (spot .found .0) found reserved draft-meets draft-is
-        ∙ ap (λ (y : FieldOf). steppedAs (onHeld linkage x (eqb (g .la) 1) (actOf y))) means
+        ∙ ap (λ (y : FieldOf). steppedAs (onHeld linkage x (eqb (g .la) 1) tt (actOf y))) means
 
     -- what is shown then: the list that was open, or the set as it was
     shows-is : r .shows ≡ isShowing (after .1)
     unfolding steppedAs
-    shows-is = ap (λ (y : Stepped). y .shows) result
+    shows-is = ap (λ (y : ListStep). y .shows) result
 
     shown-then : storeMaybe (after .0 .shown) ≡ storeMaybe (cond (r .shows) (x .draft) (x .shown))
     unfolding after
@@ -190,40 +187,26 @@ module _ (bytes : List ℕ) (t₀ t : Table) (notes : Notes) (o : Outcome) (spot
         ap storeMaybe (held-shown x (eqb (g .la) 1) (actOf g))
         ∙ ap (λ (b : Bool). storeMaybe (cond b (x .draft) (x .shown))) (sym shows-is)
 
-    table-is : (shown : IdList) → shown ≡ storeMaybe (after .0 .shown) → setAt t p (eqb (f .la) 1) shown (r .draft) ≡ storeTable (set c j (after .0))
+    table-is : (shown : IdList) → shown ≡ storeMaybe (after .0 .shown) → setAt t p (eqb (f .la) 1) shown (r .draft) ≡ storeSets (set c j (after .0))
     unfolding c j x after steppedAs
     table-is shown e =
         (λ k. setAt (G .stored k) (place k) ((la-is ∙ sym (held-state x (eqb (g .la) 1) (actOf g))) k) (e k) (result k .draft))
-        ∙ sym (store-set c j (after .0) within (onHeld-key linkage x (eqb (g .la) 1) (actOf g)))
+        ∙ sym (store-set c j (after .0) within (onHeld-key linkage x (eqb (g .la) 1) tt (actOf g)))
 
     turn-with : (shown : IdList) → shown ≡ storeMaybe (after .0 .shown) → (notes' : Notes) → notes' ≡ notedAt notes i (r .note)
         → Going bytes t₀ (setAt t p (eqb (f .la) 1) shown (r .draft)) notes' o spots from at (i + 1)
     unfolding c g j x after steppedAs
     turn-with shown e notes' q =
         going-next bytes t₀ t notes o spots from at i G h _ notes' (after .1) (set c j (after .0))
-        (step-here c g (here b)) (table-is shown e) (q ∙ ap (λ (y : Stepped). notedAt notes i (y .note)) result)
+        (step-here c g (here b)) (table-is shown e) (q ∙ ap (λ (y : ListStep). notedAt notes i (y .note)) result)
 
-    -- u is the table once what is shown is stored, the list before it or nothing new; then come the new list and the state
-    abbrev listAt : Table → Table
-    listAt u = record { count = u .count; keys = u .keys; on = set (u .on) p (eqb (f .la) 1); shown = u .shown; draft = set (u .draft) p (r .draft) }
+    shown-or : (b : Bool) → cond b (getD (t .draft) p past) (getD (t .shown) p past) ≡ storeMaybe (cond b (x .draft) (x .shown))
+    shown-or true = draft-is
+    shown-or false = shown-is
 
-    module _ (u : Table) (notes' : Notes) (q : notes' ≡ notedAt notes i (r .note)) where
-      turn-from : (l : List IdList) → u ≡ record { count = t .count; keys = t .keys; on = t .on; shown = l; draft = t .draft }
-          → (shown : IdList) → set (t .shown) p shown ≡ l → shown ≡ storeMaybe (after .0 .shown) → Going bytes t₀ (listAt u) notes' o spots from at (i + 1)
-      unfolding setAt
-      turn-from l e shown le is =
-          subst (λ (v : Table). Going bytes t₀ (listAt v) notes' o spots from at (i + 1)) (sym e)
-          (subst
-          (λ (m : List IdList). Going bytes t₀ (listAt (record { count = t .count; keys = t .keys; on = t .on; shown = m; draft = t .draft })) notes' o spots from at (i + 1))
-          le (turn-with shown is notes' q))
-
-      pub turn-shows : r .shows ≡ true → u ≡ record { count = t .count; keys = t .keys; on = t .on; shown = set (t .shown) p (getD (t .draft) p past); draft = t .draft }
-          → Going bytes t₀ (listAt u) notes' o spots from at (i + 1)
-      turn-shows s e = turn-from _ e _ refl (draft-is ∙ sym (shown-then ∙ ap (λ (b : Bool). storeMaybe (cond b (x .draft) (x .shown))) s))
-
-      pub turn-keeps : r .shows ≡ false → u ≡ t → Going bytes t₀ (listAt u) notes' o spots from at (i + 1)
-      turn-keeps s e =
-          turn-from _ e _ (set-getD (t .shown) p past) (shown-is ∙ sym (shown-then ∙ ap (λ (b : Bool). storeMaybe (cond b (x .draft) (x .shown))) s))
+    pub turn-held : (shown : IdList) → shown ≡ cond (r .shows) (getD (t .draft) p past) (getD (t .shown) p past) → (notes' : Notes) → notes' ≡ notedAt notes i (r .note)
+        → Going bytes t₀ (setAt t p (eqb (f .la) 1) shown (r .draft)) notes' o spots from at (i + 1)
+    turn-held shown e notes' q = turn-with shown (e ∙ shown-or (r .shows) ∙ sym shown-then) notes' q
 
   -- ---- a key that is not held
 
@@ -241,7 +224,7 @@ module _ (bytes : List ℕ) (t₀ t : Table) (notes : Notes) (o : Outcome) (spot
 
     -- a start, and room
     pub turn-new : opensIn f (t .count) ≡ true → ((n : ℕ) → getD bytes n 0 < 256) → (l : IdList) (w : Grown) → l ≡ emptyList → w ≡ withField l body f
-        → (t' : Table) → t' ≡ openedTable t p key (eqb (f .la) 1) (w .list) → (notes' : Notes) → notes' ≡ notedAt notes i Opened
+        → (t' : Sets) → t' ≡ openedSets t p key (eqb (f .la) 1) (w .list) → (notes' : Notes) → notes' ≡ notedAt notes i Opened
         → Going bytes t₀ t' notes' o spots from at (i + 1)
     unfolding c g opensIn
     turn-new open' b256 l w le we t' te notes' q =
@@ -254,7 +237,7 @@ module _ (bytes : List ℕ) (t₀ t : Table) (notes : Notes) (o : Outcome) (spot
         ∙ ap (λ (y : FieldOf). storeList (opening linkage (brings y))) means in
         going-next bytes t₀ t notes o spots from at i G h t' notes' Opened (insert linkage (fresh linkage (keyOf g) (eqb (g .la) 1) (brings g)) c)
         (step-new c g ascending (nowhere b) act few)
-        (te ∙ (λ k. openedTable (G .stored k) p (key-is k) (la-is k) (list' k)) ∙ sym (store-new c (keyOf g) p (eqb (g .la) 1) (brings g) (nowhere b) place few))
+        (te ∙ (λ k. openedSets (G .stored k) p (key-is k) (la-is k) (list' k)) ∙ sym (store-new c (keyOf g) p (eqb (g .la) 1) (brings g) (nowhere b) place few))
         q
       where
         inside : ((n : ℕ) → getD bytes n 0 < 256) → InBody body f
@@ -284,12 +267,12 @@ module _ (bytes : List ℕ) (t₀ t : Table) (notes : Notes) (o : Outcome) (spot
 
 -- ---- a refused block
 
-closed-draft : (c : Content) → map draftIn (map (closed linkage) c) ≡ replicate (length c) emptyList
+closed-draft : (c : Entries) → map draftIn (map (closed linkage) c) ≡ replicate (length c) emptyList
 unfolding closed entryWith draftIn storeMaybe
 closed-draft [] = refl
 closed-draft (e ∷ c) = ap (λ (r : List IdList). emptyList ∷ r) (closed-draft c)
 
-same-column : {B : Type 0} (v : Held → B) → ((e : Held) → v (closed linkage e) ≡ v e) → (c : Content) → map v (map (closed linkage) c) ≡ map v c
+same-column : {B : Type 0} (v : Held → B) → ((e : Held) → v (closed linkage e) ≡ v e) → (c : Entries) → map v (map (closed linkage) c) ≡ map v c
 same-column v s [] = refl
 same-column v s (e ∷ c) = ap₂ _∷_ (s e) (same-column v s c)
 
@@ -305,9 +288,9 @@ shown-same : (e : Held) → shownIn (closed linkage e) ≡ shownIn e
 unfolding closed entryWith shownIn
 shown-same e = refl
 
-pub store-closed : (c : Content) → length c ≤ 32
-    → storeTable (dropOpen linkage c) ≡ record { count = length c; keys = storeTable c .keys; on = storeTable c .on; shown = storeTable c .shown; draft = replicate 32 emptyList }
-unfolding storeTable dropOpen
+pub store-closed : (c : Entries) → length c ≤ 32
+    → storeSets (dropOpen linkage c) ≡ record { count = length c; keys = storeSets c .keys; on = storeSets c .on; shown = storeSets c .shown; draft = replicate 32 emptyList }
+unfolding storeSets dropOpen
 store-closed c h =
     let n = length-map c (closed linkage) in
     let ks = ap (padded 32 0) (same-column S.keyIn keys-same c) in
@@ -324,7 +307,7 @@ pub record Fits' (bytes : List ℕ) (spots : Spots) (from i : ℕ) : Type 0 wher
   pub block : from + 32 ≤ length bytes
   pub few : i < 14
 
-module _ (bytes : List ℕ) (t₀ t : Table) (notes : Notes) (o : Outcome) (spots : Spots) (from at i : ℕ) (G : Going bytes t₀ t notes o spots from at i) where
+module _ (bytes : List ℕ) (t₀ : Table) (t : Sets) (notes : Notes) (o : Outcome) (spots : Spots) (from at i : ℕ) (G : Going bytes t₀ t notes o spots from at i) where
   pub fits-now : i < spots .count → Fits' bytes spots from i
   fits-now h =
       let s = spot-now bytes t₀ t notes o spots from at i G h in
@@ -336,7 +319,7 @@ module _ (bytes : List ℕ) (t₀ t : Table) (notes : Notes) (o : Outcome) (spot
       }
 
   pub table-short : t .count ≤ 32
-  table-short = omega (arith, count-of t (G .now') (G .stored), table-rules (G .now') .0 (G .now-meets) .short)
+  table-short = omega (arith, count-of t (G .now' .sets) (G .stored), table-rules (G .now' .sets) .0 (G .now-meets) .short)
 
   pub place-short : (p k : ℕ) → (ltb p (t .count) && eqb (getD (t .keys) p 0) k) ≡ true → p < 32
   place-short p k b = omega (arith, table-short, ltb-true p (t .count) (and-left (ltb p (t .count)) _ b))
@@ -367,7 +350,7 @@ judged-few fib r (isRefused o v d z) = omega arith
 judged-few fib r (isNoBlock v d z) = omega arith
 
 -- a turn at a block: taken, or refused with every open list dropped
-module _ (bytes : List ℕ) (t₀ t : Table) (notes : Notes) (o : Outcome) (spots : Spots) (from at i : ℕ) (G : Going bytes t₀ t notes o spots from at i)
+module _ (bytes : List ℕ) (t₀ : Table) (t : Sets) (notes : Notes) (o : Outcome) (spots : Spots) (from at i : ℕ) (G : Going bytes t₀ t notes o spots from at i)
     (h : spots .count ≤ i) (l : 32 ≤ length bytes - at) (b256 : (n : ℕ) → getD bytes n 0 < 256)
     (part : List ℕ) (part-is : part ≡ take 32 (drop at bytes)) (r : Judged) (notes' : Notes) (none' : notes' ≡ noNotes) where
   fib : List ℕ
@@ -382,11 +365,11 @@ module _ (bytes : List ℕ) (t₀ t : Table) (notes : Notes) (o : Outcome) (spot
   never-none v = subst (Refusal fib) (ap verdict (sym part-is) ∙ v) (full-refusal fib full)
 
   closed-table : (n : IdList) → n ≡ emptyList
-      → record { count = t .count; keys = t .keys; on = t .on; shown = t .shown; draft = replicate 32 n } ≡ storeTable (dropOpen linkage (G .now'))
+      → record { count = t .count; keys = t .keys; on = t .on; shown = t .shown; draft = replicate 32 n } ≡ storeSets (dropOpen linkage (G .now' .sets))
   closed-table n ne =
       (λ k. record { count = G .stored k .count; keys = G .stored k .keys; on = G .stored k .on; shown = G .stored k .shown; draft = replicate 32 (ne k) })
-      ∙ ap (λ (m : ℕ). record { count = m; keys = storeTable (G .now') .keys; on = storeTable (G .now') .on; shown = storeTable (G .now') .shown; draft = replicate 32 emptyList }) (count-of (storeTable (G .now')) (G .now') refl)
-      ∙ sym (store-closed (G .now') (table-rules (G .now') .0 (G .now-meets) .short))
+      ∙ ap (λ (m : ℕ). record { count = m; keys = storeSets (G .now' .sets) .keys; on = storeSets (G .now' .sets) .on; shown = storeSets (G .now' .sets) .shown; draft = replicate 32 emptyList }) (count-of (storeSets (G .now' .sets)) (G .now' .sets) refl)
+      ∙ sym (store-closed (G .now' .sets) (table-rules (G .now' .sets) .0 (G .now-meets) .short))
 
   pub turn-taken : JudgedAs part (verdict part) r → isDone (r .outcome) ≡ true → Going bytes t₀ t notes' (r .outcome) (r .spots) at (at + 32) 0
   turn-taken (isTaken fs v d p) y =

@@ -9,7 +9,7 @@ use Rattle.rules.specs.Arrays.{padded}
 use Rattle.rules.specs.declared.Outcome.{Outcome}
 use Rattle.rules.specs.declared.Outcome.the-variants.{Done, NotABlock, CheckFails, WrongFig, WrongField, WrongValue, EmptyStart, NotHeld, ShortBuffer, WrongTable, NotASheet, NotShown, TooMuch, TooManyPieces, BadCode}
 use Rattle.rules.specs.declared.Note.{Note}
-use Rattle.rules.specs.declared.Note.the-variants.{Opened, ShownAndOpened, Added, NoOpenList, Full, TooLong, StateOnly, UnknownKey}
+use Rattle.rules.specs.declared.Note.the-variants.{Opened, ShownAndOpened, Added, NoOpenList, Full, TooLong, StateOnly, UnknownKey, Dropped}
 use Rattle.rules.specs.Family.{onHeld}
 use Rattle.rules.specs.Collecting.{linkage, Held, actOf, ifThere}
 use Rattle.field.specs.declared.Field.{Field}
@@ -17,9 +17,14 @@ use Rattle.field.specs.declared.FieldStep.the-variants.{Found}
 use Rattle.field.specs.FieldStep.{fieldStepAt, meaning, hasListIn, continues}
 use Rattle.lists.specs.declared.IdList.{IdList}
 use Rattle.lists.specs.Stored.{storeMaybe}
-use Rattle.reading.specs.declared.Stepped.{Stepped}
 use Rattle.reading.specs.declared.Noted.{Noted}
 use Rattle.reading.specs.declared.Notes.{Notes}
+
+-- what a field leaves of a held key's list, whether the list that was open is shown instead of the set, and the note
+pub record ListStep : Type 0 where
+  pub draft : IdList
+  pub shows : Bool
+  pub note : Note
 
 -- the list that was open is shown: its note says so
 unfoldable pub isShowing : Note → Bool
@@ -31,16 +36,17 @@ isShowing Full = false
 isShowing TooLong = false
 isShowing StateOnly = false
 isShowing UnknownKey = false
+isShowing Dropped = false
 
 -- an entry's list as it is stored, with the note, and whether the list before it is shown
-unfoldable pub steppedAs : Held × Note → Stepped
+unfoldable pub steppedAs : Held × Note → ListStep
 steppedAs r = record { shows = isShowing (r .1); draft = storeMaybe (r .0 .draft); note = r .1 }
 
 -- a field that was found in a body does to the stored list of an entry what the rules say
-unfoldable pub HeldStep : List ℕ → Field → IdList → Stepped → Type 0
+unfoldable pub HeldStep : List ℕ → Field → IdList → ListStep → Type 0
 HeldStep body f draft r =
     (e : Held) (s : Bool) (place next : ℕ) → fieldStepAt body place ≡ Found f next → (f .qualifier ≡ 2 → ⊥) → ifThere (e .key) (e .draft) ≡ true
-    → draft ≡ storeMaybe (e .draft) → r ≡ steppedAs (onHeld linkage e s (actOf (meaning body f)))
+    → draft ≡ storeMaybe (e .draft) → r ≡ steppedAs (onHeld linkage e s tt (actOf (meaning body f)))
 
 -- a field of a key that is not held opens a list: a start, and room for one key more
 unfoldable pub opensIn : Field → ℕ → Bool

@@ -4,74 +4,27 @@
 
 ghost use mathlib.Core.Path.{_≡_};
 ghost use Prim.Native.Nat.{_<_};
-ghost use mathlib.Core.Bool.{_&&_};
-ghost use lib.ListN.{length, getD, set};
-ghost use lib.Dec.{ltb, eqb};
+ghost use lib.ListN.{length};
+ghost use lib.Dec.{eqb};
 ghost use Rattle.rules.specs.Outcomes.{readBlock};
 ghost use Rattle.table.specs.Stored.{Stored, Given};
+ghost use Rattle.sets.specs.Stored.{openedSets};
 ghost use Rattle.lists.specs.Grown.{withField};
 ghost use Rattle.lists.specs.Stored.{emptyList};
-ghost use Rattle.reading.specs.Steps.{HeldStep, opensIn, unheldNote, noNotes, notedAt, isDone};
+ghost use Rattle.reading.specs.Steps.{opensIn, unheldNote, noNotes, notedAt, isDone};
+ghost use Rattle.reading.specs.Gathered.{setsOf};
 ghost use Rattle.reading.specs.Runs.{Runs, runAs, refusedTable, recordedAs, unrecorded};
+
+mod rows;
+
 use block::Spots;
 use field::Field;
 use lists::IdList;
+use rows::Rows;
 use rules::Note;
 use rules::Outcome;
+use sets::Sets;
 use table::Table;
-
-// What a field leaves of a held key's list, whether the list that was open is shown instead of the set, and the note.
-struct Stepped {
-    draft: IdList,
-    shows: bool,
-    note: Note,
-}
-
-// These three.
-fn step_of(draft: IdList, shows: bool, note: Note) -> Stepped
-    ensures { λ r. ⌜ r ≡ record { draft = draft; shows = shows; note = note } ⌝ }
-{
-    Stepped { draft, shows, note }
-}
-
-// A field of a held key.
-fn on_held(draft: IdList, body: &[u8], f: Field) -> Stepped
-    ensures { λ r. ⌜ HeldStep (now (body .entry)) f draft r ⌝ }
-{
-    if !f.has_list() {
-        return step_of(draft, false, Note::StateOnly);
-    }
-    if f.is_continuation() {
-        if draft.len == 0 {
-            return step_of(draft, false, Note::NoOpenList);
-        }
-        let grown = draft.with_field(body, f);
-        let longer = grown.list;
-        if grown.fits {
-            return step_of(longer, false, Note::Added);
-        }
-        return step_of(longer, false, Note::TooLong);
-    }
-    let grown = IdList::empty().with_field(body, f);
-    let opened = grown.list;
-    if draft.len == 0 {
-        return step_of(opened, false, Note::Opened);
-    }
-    step_of(opened, true, Note::ShownAndOpened)
-}
-
-// Whether a key stands at its place.
-fn stands_at(keys: &[u32], count: usize, at: usize, key: u32) -> bool
-    ensures { λ r. ⌜ r ≡ (ltb at count && eqb (getD (now (keys .entry)) at 0) key) ⌝ }
-{
-    if count <= at {
-        return false;
-    }
-    if keys.len() <= at {
-        return 0 == key;
-    }
-    keys[at] == key
-}
 
 // Whether a field of a key that is not held opens a list: a start, and room for one key more.
 fn opens(f: Field, count: usize) -> bool
@@ -151,16 +104,123 @@ pub struct Answer {
     pub table: Table,
 }
 
-// Reads the whole blocks of some bytes in order, field by field. The table stays in this function: it
-// is not copied for a block. A turn takes one field of the present block, or judges the next block.
+// What is said of the present block, so far.
+struct Reply {
+    outcome: Outcome,
+    notes: Notes,
+}
+
+impl Reply {
+    // To a block with this outcome, before its fields.
+    fn to(outcome: Outcome) -> Self
+        ensures { λ r. ⌜ r ≡ record { outcome = outcome; notes = noNotes } ⌝ }
+    {
+        Reply {
+            outcome,
+            notes: Notes::none(),
+        }
+    }
+
+    // With the note of a field more.
+    fn noted(self, at: usize, note: Note) -> Self
+        requires { ⌜ at < 14 ⌝ }
+        ensures { λ r. ⌜ r ≡ record { outcome = self .outcome; notes = notedAt (self .notes) at note } ⌝ }
+    {
+        let outcome = self.outcome;
+        let notes = self.notes;
+        Reply {
+            outcome,
+            notes: notes.noted(at, note),
+        }
+    }
+
+    // The answer, with this table.
+    fn answer(self, table: Table) -> Answer
+        ensures { λ r. ⌜ r ≡ record { outcome = self .outcome; notes = self .notes; table = table } ⌝ }
+    {
+        let outcome = self.outcome;
+        let notes = self.notes;
+        Answer {
+            outcome,
+            notes,
+            table,
+        }
+    }
+}
+
+// What the sets of a table are beside their lists.
+struct Head {
+    count: usize,
+    keys: [u32; Table::KEYS],
+    on: [bool; Table::KEYS],
+}
+
+fn head_of(sets: Sets) -> Head
+    ensures { λ r. ⌜ r ≡ record { count = sets .count; keys = sets .keys; on = sets .on } ⌝ }
+{
+    let keys = sets.keys;
+    let on = sets.on;
+    Head {
+        count: sets.count,
+        keys,
+        on,
+    }
+}
+
+// The sets that are shown in the rows of `sn` and `sk`, with open lists in those of `dn` and `dk`.
+fn sets_of<'a>(
+    head: Head,
+    sn: &'a [u32],
+    sk: &'a [u8],
+    shown: Rows,
+    dn: &'a [u32],
+    dk: &'a [u8],
+    draft: Rows,
+) -> Sets
+    requires { ⌜ (length (now sn) ≡ 4096) × (length (now sk) ≡ 4096) × (length (now dn) ≡ 4096) × (length (now dk) ≡ 4096) ⌝ }
+    ensures { λ r. ⌜ r ≡ setsOf head (now (sn .entry)) (now (sk .entry)) shown (now (dn .entry)) (now (dk .entry)) draft ⌝ }
+{
+    let keys = head.keys;
+    let on = head.on;
+    let set_lists = rows::gather(sn, sk, shown);
+    let open_lists = rows::gather(dn, dk, draft);
+    Sets {
+        count: head.count,
+        keys,
+        on,
+        shown: set_lists,
+        draft: open_lists,
+    }
+}
+
+// Sets with the key of a field that starts a list.
+fn opened(sets: Sets, at: usize, key: u32, body: &[u8], f: Field) -> Sets
+    ensures { λ r. ⌜ r ≡ openedSets sets at key (eqb (f .la) 1) (withField emptyList (now (body .entry)) f .list) ⌝ }
+{
+    let first = IdList::empty().with_field(body, f);
+    let list = first.list;
+    sets.opened_at(at, key, f.la == 1, list)
+}
+
+// Reads the whole blocks of some bytes in order, field by field: a turn takes one field of the present block, or judges
+// the next block. Meanwhile the lists stand in rows: numbers and kinds of the sets in `sn` and `sk`, of the open lists
+// in `dn` and `dk`. These arrays are locals, so that a field's rows can be lent and no list is copied for it.
 fn run_blocks(table: Table, bytes: &[u8]) -> Answer
     requires { ⌜ Stored table ⌝ }
     ensures { λ r. ⌜ Runs table (now (bytes .entry)) r ⌝ }
 {
-    let closed = [IdList::empty(); Table::KEYS];
-    let mut t = table;
-    let mut notes = Notes::none();
-    let mut outcome = Outcome::Done;
+    let mut sn = [0u32; rows::PLACES];
+    let mut sk = [0u8; rows::PLACES];
+    let mut dn = [0u32; rows::PLACES];
+    let mut dk = [0u8; rows::PLACES];
+    let sets = table.sets;
+    let lists = sets.shown;
+    let mut shown = rows::scatter(lists, &mut sn, &mut sk);
+    let lists = sets.draft;
+    let mut draft = rows::scatter(lists, &mut dn, &mut dk);
+    let mut head = head_of(sets);
+    let closed = Rows::none();
+    let mut reply = Reply::to(Outcome::Done);
     let mut spots = block::no_spots();
     let mut from = 0;
     let mut at = 0;
@@ -172,47 +232,57 @@ fn run_blocks(table: Table, bytes: &[u8]) -> Answer
             let end = from + spot.end as usize;
             let f = spot.field(&bytes[start..end]);
             let key = f.key();
-            let count = t.count;
-            let p = table::place_of(&t.keys, count, key);
-            if stands_at(&t.keys, count, p, key) {
-                let draft = t.draft[p];
-                let held = on_held(draft, &bytes[start..end], f);
-                let left = held.draft;
+            let count = head.count;
+            let p = sets::place_of(&head.keys, count, key);
+            if sets::stands_at(&head.keys, count, p, key) {
+                let a = p * IdList::MOST;
+                let e = a + IdList::MOST;
+                let held = rows::on_held(
+                    &mut sn[a..e],
+                    &mut sk[a..e],
+                    rows::row_at(&shown.lens, &shown.names, p),
+                    &mut dn[a..e],
+                    &mut dk[a..e],
+                    rows::row_at(&draft.lens, &draft.names, p),
+                    &bytes[start..end],
+                    f,
+                );
                 let note = held.note;
-                if held.shows {
-                    t.shown[p] = draft;
-                }
-                t.draft[p] = left;
-                t.on[p] = f.la == 1;
-                notes = notes.noted(i, note);
+                shown.lens[p] = held.shown.len;
+                shown.names[p] = held.shown.named;
+                draft.lens[p] = held.draft.len;
+                draft.names[p] = held.draft.named;
+                head.on[p] = f.la == 1;
+                reply = reply.noted(i, note);
                 i += 1;
             } else if opens(f, count) {
-                let first = IdList::empty().with_field(&bytes[start..end], f);
-                let list = first.list;
-                t = t.opened_at(p, key, f.la == 1, list);
-                notes = notes.noted(i, Note::Opened);
+                let now = sets_of(head, &sn, &sk, shown, &dn, &dk, draft);
+                let next = opened(now, p, key, &bytes[start..end], f);
+                head = head_of(next);
+                let lists = next.shown;
+                shown = rows::scatter(lists, &mut sn, &mut sk);
+                let lists = next.draft;
+                draft = rows::scatter(lists, &mut dn, &mut dk);
+                reply = reply.noted(i, Note::Opened);
                 i += 1;
             } else {
-                notes = notes.noted(i, unheld_note(f));
+                reply = reply.noted(i, unheld_note(f));
                 i += 1;
             }
         } else {
             if bytes.len() - at < 32 {
-                return Answer {
-                    outcome,
-                    notes,
-                    table: t,
-                };
+                let left = sets_of(head, &sn, &sk, shown, &dn, &dk, draft);
+                return reply.answer(Table::of(left));
             }
             from = at;
             at += 32;
             let judged = block::judge(&bytes[from..at]);
-            outcome = judged.outcome;
+            let outcome = judged.outcome;
+            reply = Reply::to(outcome);
             spots = judged.spots;
-            notes = Notes::none();
             i = 0;
             if !is_done(outcome) {
-                t.draft = closed;
+                draft = closed;
             }
         }
     }

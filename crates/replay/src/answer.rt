@@ -8,6 +8,7 @@ use out::put_hex;
 use reading::Notes;
 use rules::Note;
 use rules::Outcome;
+use sets::Sets;
 use table::Table;
 ghost use mathlib.Core.Path.{_≡_};
 ghost use Rattle.rules.specs.Outcomes.{numberOf, noteNumber};
@@ -48,6 +49,7 @@ pub(crate) fn note_number(note: Note) -> usize
         Note::TooLong => 6,
         Note::StateOnly => 7,
         Note::UnknownKey => 8,
+        Note::Dropped => 9,
     }
 }
 
@@ -131,14 +133,14 @@ fn put_entry(out: &mut [u8], at: usize, key: u32, on: bool, shown: IdList, draft
 }
 
 // The lines of the held keys, after the table's first line.
-fn put_entries(out: &mut [u8], at: usize, table: Table) -> usize {
-    let end = least(table.count, 32);
+fn put_entries(out: &mut [u8], at: usize, sets: Sets) -> usize {
+    let end = least(sets.count, 32);
     let mut p = at;
     let mut i = 0;
     while i < end {
-        let shown = table.shown[i];
-        let draft = table.draft[i];
-        p = put_entry(out, p, table.keys[i], table.on[i], shown, draft);
+        let shown = sets.shown[i];
+        let draft = sets.draft[i];
+        p = put_entry(out, p, sets.keys[i], sets.on[i], shown, draft);
         i += 1;
     }
     p
@@ -149,9 +151,10 @@ pub(crate) fn put_table(out: &mut [u8], table: Table) -> usize {
     if !table.meets() {
         return put_outcome(out, b't', Outcome::WrongTable);
     }
-    let p = put_head(out, b't', table.count);
+    let sets = table.sets;
+    let p = put_head(out, b't', sets.count);
     let q = put(out, p, 10);
-    put_entries(out, q, table)
+    put_entries(out, q, sets)
 }
 
 // A byte in hexadecimal.

@@ -1,6 +1,7 @@
 // The sixteen ways to spoil a table, for testing outcome 9. Each is an assignment on the stored form, on
 // the first place that has what the way needs.
 use lists::IdList;
+use sets::Sets;
 use table::Table;
 ghost use Prim.Native.Nat.{_<_};
 
@@ -8,6 +9,12 @@ ghost use Prim.Native.Nat.{_<_};
 pub struct Spoilt {
     pub done: bool,
     pub table: Table,
+}
+
+// The same of its sets.
+struct SpoiltSets {
+    done: bool,
+    sets: Sets,
 }
 
 // Ways 1 to 6 need only enough entries.
@@ -42,18 +49,18 @@ fn place_before(count: usize, most: usize) -> usize
 }
 
 // 1: entries 0 and 1 change places.
-fn swapped(table: Table) -> Table {
-    let mut t = table;
-    t.keys[0] = table.keys[1];
-    t.keys[1] = table.keys[0];
-    t.on[0] = table.on[1];
-    t.on[1] = table.on[0];
-    let shown0 = table.shown[0];
-    let shown1 = table.shown[1];
+fn swapped(sets: Sets) -> Sets {
+    let mut t = sets;
+    t.keys[0] = sets.keys[1];
+    t.keys[1] = sets.keys[0];
+    t.on[0] = sets.on[1];
+    t.on[1] = sets.on[0];
+    let shown0 = sets.shown[0];
+    let shown1 = sets.shown[1];
     t.shown[0] = shown1;
     t.shown[1] = shown0;
-    let draft0 = table.draft[0];
-    let draft1 = table.draft[1];
+    let draft0 = sets.draft[0];
+    let draft1 = sets.draft[1];
     t.draft[0] = draft1;
     t.draft[1] = draft0;
     t
@@ -61,21 +68,21 @@ fn swapped(table: Table) -> Table {
 
 // Ways 1 to 6, where they apply: 2 more entries than places, 3 a key twice, 4 a key of 65,536, 5 a key
 // with LSN 0, 6 something in an unused entry.
-fn spoil_entries(table: Table, way: usize) -> Table {
+fn spoil_entries(sets: Sets, way: usize) -> Sets {
     if way == 1 {
-        return swapped(table);
+        return swapped(sets);
     }
-    let mut t = table;
-    let count = table.count;
+    let mut t = sets;
+    let count = sets.count;
     if way == 2 {
         t.count = 33;
     } else if way == 3 {
-        t.keys[1] = table.keys[0];
+        t.keys[1] = sets.keys[0];
     } else if way == 4 {
         let last = place_before(count, 32);
         t.keys[last] = 65536;
     } else if way == 5 {
-        t.keys[0] = table.keys[0] - table.keys[0] % 4096;
+        t.keys[0] = sets.keys[0] - sets.keys[0] % 4096;
     } else if count < 32 {
         t.on[count] = true;
     }
@@ -188,42 +195,55 @@ fn spoil_first(keys: [u32; 32], lists: [IdList; 32], way: usize) -> Lists {
     }
 }
 
-// A table spoiled in one of the ways 7 to 16: its open lists in way 16, else its shown sets.
-fn spoil_lists(table: Table, way: usize) -> Spoilt {
-    let mut t = table;
-    let keys = table.keys;
+// Sets spoiled in one of the ways 7 to 16: their open lists in way 16, else what is shown.
+fn spoil_lists(sets: Sets, way: usize) -> SpoiltSets {
+    let mut s = sets;
+    let keys = sets.keys;
     if way == 16 {
-        let drafts = table.draft;
+        let drafts = sets.draft;
         let spoilt = spoil_first(keys, drafts, way);
         let left = spoilt.lists;
-        t.draft = left;
-        Spoilt {
+        s.draft = left;
+        SpoiltSets {
             done: spoilt.done,
-            table: t,
+            sets: s,
         }
     } else {
-        let shown = table.shown;
+        let shown = sets.shown;
         let spoilt = spoil_first(keys, shown, way);
         let left = spoilt.lists;
-        t.shown = left;
-        Spoilt {
+        s.shown = left;
+        SpoiltSets {
             done: spoilt.done,
-            table: t,
+            sets: s,
         }
+    }
+}
+
+// Sets spoiled in one of the ways 1 to 16.
+fn spoil_sets(sets: Sets, way: usize) -> SpoiltSets {
+    if 7 <= way {
+        return spoil_lists(sets, way);
+    }
+    if !applies(way, sets.count) {
+        return SpoiltSets { done: false, sets };
+    }
+    let left = spoil_entries(sets, way);
+    SpoiltSets {
+        done: true,
+        sets: left,
     }
 }
 
 // A table spoiled in one of the ways 1 to 16.
 pub(crate) fn spoil(table: Table, way: usize) -> Spoilt {
-    if 7 <= way {
-        return spoil_lists(table, way);
-    }
-    if !applies(way, table.count) {
-        return Spoilt { done: false, table };
-    }
-    let t = spoil_entries(table, way);
+    let sets = table.sets;
+    let spoilt = spoil_sets(sets, way);
+    let left = spoilt.sets;
+    let mut next = table;
+    next.sets = left;
     Spoilt {
-        done: true,
-        table: t,
+        done: spoilt.done,
+        table: next,
     }
 }

@@ -95,6 +95,15 @@ and-five a b c d e = (
   λ h. rw (h .0, h .1, h .2, h .3, h .4),
 )
 
+pub and-six : (a b c d e f : Bool)
+    → ((a && b && c && d && e && f) ≡ true) ↔ ((a ≡ true) × (b ≡ true) × (c ≡ true) × (d ≡ true) × (e ≡ true) × (f ≡ true))
+and-six a b c d e f = (
+  λ h. let h5 = and-left (a && b && c && d && e) f h in
+      let t = and-five a b c d e .0 h5 in
+      (t .0, t .1, t .2, t .3, t .4, and-right (a && b && c && d && e) f h),
+  λ h. rw (h .0, h .1, h .2, h .3, h .4, h .5),
+)
+
 -- one or the other
 pub or-cases {ℓ} : {C : Type ℓ} (a b : Bool) → (a || b) ≡ true → (a ≡ true → C) → (b ≡ true → C) → C
 or-cases true b e l r = l refl
@@ -172,10 +181,6 @@ module _ {A : Type 0} where
   every-imp P Q h [] e = tt
   every-imp P Q h (x ∷ xs) e = (h x (e .0), every-imp P Q h xs (e .1))
 
-  pub every-all : (P : A → Type 0) → ((x : A) → P x) → (xs : List A) → Every P xs
-  every-all P h [] = tt
-  every-all P h (x ∷ xs) = (h x, every-all P h xs)
-
   pub every-both : (P Q R : A → Type 0) → ((x : A) → P x → Q x → R x) → (xs : List A) → Every P xs → Every Q xs → Every R xs
   every-both P Q R h [] e f = tt
   every-both P Q R h (x ∷ xs) e f = (h x (e .0) (f .0), every-both P Q R h xs (e .1) (f .1))
@@ -239,3 +244,12 @@ pub getD-map : {A B : Type 0} (g : A → B) (xs : List A) (i : ℕ) (d : B) (e :
 getD-map g [] i d e h = absurd (omega arith)
 getD-map g (x ∷ xs) zero d e h = refl
 getD-map g (x ∷ xs) (suc i) d e h = getD-map g xs i d e (omega arith)
+
+-- ---- equal lists have equal heads and tails
+
+module _ {A : Type 0} where
+  pub same-head : {a b : A} {x y : List A} → _≡_ {A = List A} (a ∷ x) (b ∷ y) → a ≡ b
+  same-head e = cc
+
+  pub same-tail : {a b : A} {x y : List A} → _≡_ {A = List A} (a ∷ x) (b ∷ y) → x ≡ y
+  same-tail e = cc

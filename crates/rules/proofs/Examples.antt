@@ -1,6 +1,5 @@
 -- The starred examples 1 to 12 of document 01, both halves of 10, as one table: blocks with their check bytes, as the second
 -- program under tests/ makes them, and what reading them into the empty table answers and leaves. One statement, computed.
--- Then the sheet and the listing of examples 15 and 16.
 use Prim.Native.Nat.{ℕ}
 use mathlib.Core.Path.{_≡_, refl}
 use mathlib.Core.Bool.{Bool, true, false}
@@ -10,11 +9,8 @@ use Rattle.rules.specs.declared.Outcome.the-variants.{Done}
 use Rattle.rules.specs.Block.{bits, bit, number, generator, shift, shifts, register, checkOf, checkHolds, after, walk, figAt, figs}
 use Rattle.rules.specs.Field.{isLinking, width, bigEndian, identifiers, shortField, listField, listBytes, fieldAt, fieldsOf, keyOf, pair, hasList, isContinuation, firstKind, startPairs, pairsOf, namedBy, wrongValue, emptyStart}
 use Rattle.rules.specs.Family.{member, added, addedAll, opening, extended, entryWith, started, continued, onHeld, fresh, onUnheld, kept, effect, find, replace, insert, store, step, steps, closed, dropOpen}
-use Rattle.rules.specs.Collecting.{samePair, joinNames, IdSet, Content, brings, actOf, said, keyWidth, showing, shownSets}
+use Rattle.rules.specs.Collecting.{samePair, joinNames, IdSet, Content, nothing, justSets, brings, actOf, said}
 use Rattle.rules.specs.Outcomes.{numberOf, noteNumber, Answer, joined, allFields, some?, judgeFields, judgeFigs, verdict, answerTo, readBlock}
-use Rattle.rules.specs.Air.{hasKind}
-use Rattle.rules.specs.Sheet.{groups, sheetNumber, sheetPairs, sheetSet, sheetSets, sheet}
-use Rattle.rules.specs.Listing.{hexDigit, hexText, decimalTo, decimal, kindLetter, pairText, pairsText, deadText, stateText, idsText, lineOf, linesOf, tailText, listing}
 
 -- an example: blocks, read one after the other into the empty table, and the answer to the last of them
 pub record Example : Type 0 where
@@ -36,7 +32,7 @@ lastAnswer a (b ∷ bs) = lastAnswer (readBlock (a .left) b) bs
 -- the table is empty at the start
 unfoldable pub given : Example → Numbered
 given x =
-    let a = lastAnswer (record { outcome = Done; notes = []; left = [] }) (x .blocks) in
+    let a = lastAnswer (record { outcome = Done; notes = []; left = nothing }) (x .blocks) in
     record { outcome = numberOf (a .outcome); notes = map noteNumber (a .notes); left = a .left }
 
 unfoldable pub expected : Example → Numbered
@@ -52,12 +48,12 @@ abbrev failing : List ℕ
 failing = 255 ∷ 0 ∷ 0 ∷ 0 ∷ 0 ∷ 0 ∷ 0 ∷ 0 ∷ 0 ∷ 0 ∷ 0 ∷ 0 ∷ 0 ∷ 0 ∷ 0 ∷ 0 ∷ 0 ∷ 0 ∷ 0 ∷ 0 ∷ 0 ∷ 0 ∷ 0 ∷ 0 ∷ 0 ∷ 0 ∷ 0 ∷ 0 ∷ 0 ∷ 0 ∷ 168 ∷ 169 ∷ []
 
 -- DAB 44B1 and RDS 44B1, RDS named
-abbrev two : IdSet
+abbrev pub two : IdSet
 two = record { items = pair 0 0x44B1 ∷ pair 1 0x44B1 ∷ []; named = 1 }
 
 -- key 2004 with a state, a shown set and an open list
-abbrev E : Bool → Option IdSet → Option IdSet → Content
-E on shown draft = record { key = 0x2004; state = on; shown = shown; draft = draft } ∷ []
+abbrev pub E : Bool → Option IdSet → Option IdSet → Content
+E on shown draft = justSets (record { key = 0x2004; state = on; shown = shown; draft = draft; stamp = tt } ∷ [])
 
 -- the blocks and what they should give
 unfoldable pub examples : List Example
@@ -72,42 +68,26 @@ examples =
     -- 4: a failing check in between: nothing shown
     record { blocks = linked ∷ failing ∷ linked ∷ []; outcome = 0; notes = 1 ∷ []; left = E true none (some two) } ∷
     -- 5: first data byte FF: done, no notes
-    record { blocks = (255 ∷ 0 ∷ 0 ∷ 0 ∷ 0 ∷ 0 ∷ 0 ∷ 0 ∷ 0 ∷ 0 ∷ 0 ∷ 0 ∷ 0 ∷ 0 ∷ 0 ∷ 0 ∷ 0 ∷ 0 ∷ 0 ∷ 0 ∷ 0 ∷ 0 ∷ 0 ∷ 0 ∷ 0 ∷ 0 ∷ 0 ∷ 0 ∷ 0 ∷ 0 ∷ 168 ∷ 168 ∷ []) ∷ []; outcome = 0; notes = []; left = [] } ∷
+    record { blocks = (255 ∷ 0 ∷ 0 ∷ 0 ∷ 0 ∷ 0 ∷ 0 ∷ 0 ∷ 0 ∷ 0 ∷ 0 ∷ 0 ∷ 0 ∷ 0 ∷ 0 ∷ 0 ∷ 0 ∷ 0 ∷ 0 ∷ 0 ∷ 0 ∷ 0 ∷ 0 ∷ 0 ∷ 0 ∷ 0 ∷ 0 ∷ 0 ∷ 0 ∷ 0 ∷ 168 ∷ 168 ∷ []) ∷ []; outcome = 0; notes = []; left = nothing } ∷
     -- 6: first byte 00: 3
-    record { blocks = (0 ∷ 255 ∷ 0 ∷ 0 ∷ 0 ∷ 0 ∷ 0 ∷ 0 ∷ 0 ∷ 0 ∷ 0 ∷ 0 ∷ 0 ∷ 0 ∷ 0 ∷ 0 ∷ 0 ∷ 0 ∷ 0 ∷ 0 ∷ 0 ∷ 0 ∷ 0 ∷ 0 ∷ 0 ∷ 0 ∷ 0 ∷ 0 ∷ 0 ∷ 0 ∷ 130 ∷ 237 ∷ []) ∷ []; outcome = 3; notes = []; left = [] } ∷
+    record { blocks = (0 ∷ 255 ∷ 0 ∷ 0 ∷ 0 ∷ 0 ∷ 0 ∷ 0 ∷ 0 ∷ 0 ∷ 0 ∷ 0 ∷ 0 ∷ 0 ∷ 0 ∷ 0 ∷ 0 ∷ 0 ∷ 0 ∷ 0 ∷ 0 ∷ 0 ∷ 0 ∷ 0 ∷ 0 ∷ 0 ∷ 0 ∷ 0 ∷ 0 ∷ 0 ∷ 130 ∷ 237 ∷ []) ∷ []; outcome = 3; notes = []; left = nothing } ∷
     -- 7: a field of one byte: 4
-    record { blocks = (2 ∷ 6 ∷ 32 ∷ 255 ∷ 0 ∷ 0 ∷ 0 ∷ 0 ∷ 0 ∷ 0 ∷ 0 ∷ 0 ∷ 0 ∷ 0 ∷ 0 ∷ 0 ∷ 0 ∷ 0 ∷ 0 ∷ 0 ∷ 0 ∷ 0 ∷ 0 ∷ 0 ∷ 0 ∷ 0 ∷ 0 ∷ 0 ∷ 0 ∷ 0 ∷ 7 ∷ 56 ∷ []) ∷ []; outcome = 4; notes = []; left = [] } ∷
+    record { blocks = (2 ∷ 6 ∷ 32 ∷ 255 ∷ 0 ∷ 0 ∷ 0 ∷ 0 ∷ 0 ∷ 0 ∷ 0 ∷ 0 ∷ 0 ∷ 0 ∷ 0 ∷ 0 ∷ 0 ∷ 0 ∷ 0 ∷ 0 ∷ 0 ∷ 0 ∷ 0 ∷ 0 ∷ 0 ∷ 0 ∷ 0 ∷ 0 ∷ 0 ∷ 0 ∷ 7 ∷ 56 ∷ []) ∷ []; outcome = 4; notes = []; left = nothing } ∷
     -- 8: LSN 0: 5
-    record { blocks = (3 ∷ 6 ∷ 32 ∷ 0 ∷ 255 ∷ 0 ∷ 0 ∷ 0 ∷ 0 ∷ 0 ∷ 0 ∷ 0 ∷ 0 ∷ 0 ∷ 0 ∷ 0 ∷ 0 ∷ 0 ∷ 0 ∷ 0 ∷ 0 ∷ 0 ∷ 0 ∷ 0 ∷ 0 ∷ 0 ∷ 0 ∷ 0 ∷ 0 ∷ 0 ∷ 118 ∷ 116 ∷ []) ∷ []; outcome = 5; notes = []; left = [] } ∷
+    record { blocks = (3 ∷ 6 ∷ 32 ∷ 0 ∷ 255 ∷ 0 ∷ 0 ∷ 0 ∷ 0 ∷ 0 ∷ 0 ∷ 0 ∷ 0 ∷ 0 ∷ 0 ∷ 0 ∷ 0 ∷ 0 ∷ 0 ∷ 0 ∷ 0 ∷ 0 ∷ 0 ∷ 0 ∷ 0 ∷ 0 ∷ 0 ∷ 0 ∷ 0 ∷ 0 ∷ 118 ∷ 116 ∷ []) ∷ []; outcome = 5; notes = []; left = nothing } ∷
     -- 9: a start with count 0: 6
-    record { blocks = (4 ∷ 6 ∷ 224 ∷ 4 ∷ 0 ∷ 255 ∷ 0 ∷ 0 ∷ 0 ∷ 0 ∷ 0 ∷ 0 ∷ 0 ∷ 0 ∷ 0 ∷ 0 ∷ 0 ∷ 0 ∷ 0 ∷ 0 ∷ 0 ∷ 0 ∷ 0 ∷ 0 ∷ 0 ∷ 0 ∷ 0 ∷ 0 ∷ 0 ∷ 0 ∷ 224 ∷ 165 ∷ []) ∷ []; outcome = 6; notes = []; left = [] } ∷
+    record { blocks = (4 ∷ 6 ∷ 224 ∷ 4 ∷ 0 ∷ 255 ∷ 0 ∷ 0 ∷ 0 ∷ 0 ∷ 0 ∷ 0 ∷ 0 ∷ 0 ∷ 0 ∷ 0 ∷ 0 ∷ 0 ∷ 0 ∷ 0 ∷ 0 ∷ 0 ∷ 0 ∷ 0 ∷ 0 ∷ 0 ∷ 0 ∷ 0 ∷ 0 ∷ 0 ∷ 224 ∷ 165 ∷ []) ∷ []; outcome = 6; notes = []; left = nothing } ∷
     -- 10: a field without a list, then a lone byte: 4
-    record { blocks = (4 ∷ 38 ∷ 54 ∷ 224 ∷ 4 ∷ 255 ∷ 0 ∷ 0 ∷ 0 ∷ 0 ∷ 0 ∷ 0 ∷ 0 ∷ 0 ∷ 0 ∷ 0 ∷ 0 ∷ 0 ∷ 0 ∷ 0 ∷ 0 ∷ 0 ∷ 0 ∷ 0 ∷ 0 ∷ 0 ∷ 0 ∷ 0 ∷ 0 ∷ 0 ∷ 34 ∷ 9 ∷ []) ∷ []; outcome = 4; notes = []; left = [] } ∷
+    record { blocks = (4 ∷ 38 ∷ 54 ∷ 224 ∷ 4 ∷ 255 ∷ 0 ∷ 0 ∷ 0 ∷ 0 ∷ 0 ∷ 0 ∷ 0 ∷ 0 ∷ 0 ∷ 0 ∷ 0 ∷ 0 ∷ 0 ∷ 0 ∷ 0 ∷ 0 ∷ 0 ∷ 0 ∷ 0 ∷ 0 ∷ 0 ∷ 0 ∷ 0 ∷ 0 ∷ 34 ∷ 9 ∷ []) ∷ []; outcome = 4; notes = []; left = nothing } ∷
     -- 10: with 00 directly after it: 3
-    record { blocks = (4 ∷ 38 ∷ 54 ∷ 224 ∷ 4 ∷ 0 ∷ 255 ∷ 0 ∷ 0 ∷ 0 ∷ 0 ∷ 0 ∷ 0 ∷ 0 ∷ 0 ∷ 0 ∷ 0 ∷ 0 ∷ 0 ∷ 0 ∷ 0 ∷ 0 ∷ 0 ∷ 0 ∷ 0 ∷ 0 ∷ 0 ∷ 0 ∷ 0 ∷ 0 ∷ 164 ∷ 200 ∷ []) ∷ []; outcome = 3; notes = []; left = [] } ∷
+    record { blocks = (4 ∷ 38 ∷ 54 ∷ 224 ∷ 4 ∷ 0 ∷ 255 ∷ 0 ∷ 0 ∷ 0 ∷ 0 ∷ 0 ∷ 0 ∷ 0 ∷ 0 ∷ 0 ∷ 0 ∷ 0 ∷ 0 ∷ 0 ∷ 0 ∷ 0 ∷ 0 ∷ 0 ∷ 0 ∷ 0 ∷ 0 ∷ 0 ∷ 0 ∷ 0 ∷ 164 ∷ 200 ∷ []) ∷ []; outcome = 3; notes = []; left = nothing } ∷
     -- 11: 31 bytes: 1, open lists kept
     record { blocks = linked ∷ (8 ∷ 6 ∷ 224 ∷ 4 ∷ 34 ∷ 68 ∷ 177 ∷ 68 ∷ 177 ∷ 255 ∷ 0 ∷ 0 ∷ 0 ∷ 0 ∷ 0 ∷ 0 ∷ 0 ∷ 0 ∷ 0 ∷ 0 ∷ 0 ∷ 0 ∷ 0 ∷ 0 ∷ 0 ∷ 0 ∷ 0 ∷ 0 ∷ 0 ∷ 0 ∷ 195 ∷ []) ∷ []; outcome = 1; notes = []; left = E true none (some two) } ∷
     -- 12: a FIG that fills the block, of another extension: done, no notes
-    record { blocks = (29 ∷ 1 ∷ 0 ∷ 0 ∷ 0 ∷ 0 ∷ 0 ∷ 0 ∷ 0 ∷ 0 ∷ 0 ∷ 0 ∷ 0 ∷ 0 ∷ 0 ∷ 0 ∷ 0 ∷ 0 ∷ 0 ∷ 0 ∷ 0 ∷ 0 ∷ 0 ∷ 0 ∷ 0 ∷ 0 ∷ 0 ∷ 0 ∷ 0 ∷ 0 ∷ 209 ∷ 55 ∷ []) ∷ []; outcome = 0; notes = []; left = [] } ∷
+    record { blocks = (29 ∷ 1 ∷ 0 ∷ 0 ∷ 0 ∷ 0 ∷ 0 ∷ 0 ∷ 0 ∷ 0 ∷ 0 ∷ 0 ∷ 0 ∷ 0 ∷ 0 ∷ 0 ∷ 0 ∷ 0 ∷ 0 ∷ 0 ∷ 0 ∷ 0 ∷ 0 ∷ 0 ∷ 0 ∷ 0 ∷ 0 ∷ 0 ∷ 0 ∷ 0 ∷ 209 ∷ 55 ∷ []) ∷ []; outcome = 0; notes = []; left = nothing } ∷
     []
 
 -- each of them gives what it should
 pub examples-hold : map given examples ≡ map expected examples
 unfolding examples given expected numberOf noteNumber lastAnswer bits bit number generator shift shifts register checkOf checkHolds after walk figAt figs isLinking width bigEndian identifiers shortField listField listBytes fieldAt fieldsOf keyOf pair hasList isContinuation firstKind startPairs pairsOf namedBy wrongValue emptyStart member added addedAll opening extended entryWith started continued onHeld fresh onUnheld kept effect find replace insert store step steps closed dropOpen samePair joinNames brings actOf said joined allFields some? judgeFields judgeFigs verdict answerTo readBlock mathlib.Core.Bool.xor mathlib.Core.List.zipWith
 examples-hold = refl
-
--- ---- examples 15 and 16: what is written of the table that example 2 leaves
-
-pub sheet-holds : sheet (E true (some two) (some two)) ≡ 0x01 ∷ 0x84 ∷ 0x40 ∷ 0x01 ∷ 0x01 ∷ 0x02 ∷ 0x00 ∷ 0xB1 ∷ 0x89 ∷ 0x01 ∷ 0x01 ∷ 0xB1 ∷ 0x89 ∷ 0x01 ∷ []
-unfolding sheet sheetSets sheetSet sheetPairs sheetNumber groups bit shownSets showing pair
-sheet-holds = refl
-
--- `sets 1` and `2004 on ids 2 D44B1 R44B1`
-pub listing-holds : listing (E true (some two) (some two)) 0 ≡ 115 ∷ 101 ∷ 116 ∷ 115 ∷ 32 ∷ 49 ∷ 10 ∷ 50 ∷ 48 ∷ 48 ∷ 52 ∷ 32 ∷ 111 ∷ 110 ∷ 32 ∷ 105 ∷ 100 ∷ 115 ∷ 32 ∷ 50 ∷ 32 ∷ 68 ∷ 52 ∷ 52 ∷ 66 ∷ 49 ∷ 32 ∷ 82 ∷ 52 ∷ 52 ∷ 66 ∷ 49 ∷ 10 ∷ []
-unfolding listing linesOf lineOf pairsText pairText deadText stateText idsText tailText kindLetter hexText hexDigit decimal decimalTo hasKind keyWidth width shownSets showing pair
-listing-holds = refl
-
--- a number of three digits
-pub decimal-holds : decimal 128 ≡ 49 ∷ 50 ∷ 56 ∷ []
-unfolding decimal decimalTo
-decimal-holds = refl

@@ -12,9 +12,9 @@ use lib.ListN.{length, length-append, length-map}
 use lib.Dec.{leb, ltb}
 use borrow.Author.Tests.{ltb-true, leb-true}
 use Rattle.rules.specs.declared.Note.{Note}
-use Rattle.rules.specs.Family.{Family, Listed, Act, start, continuation, noList, Said, Entry, member, added, addedAll, opening, extended, entryWith, started, continued, onHeld, fresh, onUnheld, kept, effect, find, replace, insert, store, step, steps, closed, dropOpen, forget}
-use Rattle.rules.specs.Demand3.{heldKeys}
-use Rattle.rules.proofs.Basics.{cases-bool, true-false, none-some, or-false-left, or-false-right, or-neither, cond-both, cond-cases, cond-twice, cond-order, Every, every-imp, every-all, every-map, every-append, Within, within-if, within-imp}
+use Rattle.rules.specs.Family.{Family, Listed, Act, start, continuation, noList, drops, Said, Entry, member, added, addedAll, opening, extended, entryWith, started, continued, onHeld, fresh, onUnheld, kept, effect, find, replace, insert, store, step, steps, closed, dropOpen, forget}
+use Rattle.rules.specs.Receptions.{heldKeys}
+use Rattle.rules.proofs.Basics.{cases-bool, true-false, none-some, or-false-left, or-false-right, or-neither, cond-both, cond-cases, cond-twice, cond-order, Every, every-imp, every-map, every-append, Within, within-if, within-imp}
 
 -- the tests of a family decide equality of keys and of items, and its order of keys is a strict total one
 pub record Lawful (F : Family) : Type 0 where
@@ -29,12 +29,12 @@ pub record Lawful (F : Family) : Type 0 where
 -- ---- entries and their keys
 
 module _ (F : Family) where
-  open Family F using (Key, sameKey, keyBefore, Item, sameItem, Names, join, State, room, most)
+  open Family F using (Key, State, Stamp, room, most)
 
-  pub started-key : (e : Entry F) (s : State) (l : Listed F) (d : Option (Listed F)) → started F e s l d .0 .key ≡ e .key
+  pub started-key : (e : Entry F) (s : State) (p : Stamp) (l : Listed F) (d : Option (Listed F)) → started F e s p l d .0 .key ≡ e .key
   unfolding started entryWith
-  started-key e s l none = refl
-  started-key e s l (some d) = refl
+  started-key e s p l none = refl
+  started-key e s p l (some d) = refl
 
   pub continued-key : (e : Entry F) (s : State) (l : Listed F) (d : Option (Listed F)) → continued F e s l d .0 .key ≡ e .key
   unfolding continued entryWith
@@ -42,11 +42,12 @@ module _ (F : Family) where
   continued-key e s l (some d) = cond-both (λ (r : Entry F × Note). r .0 .key ≡ e .key) (leb (length (extended F d l .items)) most) _ _ refl refl
 
   -- a field leaves the key of a held entry
-  pub onHeld-key : (e : Entry F) (s : State) (a : Act F) → onHeld F e s a .0 .key ≡ e .key
+  pub onHeld-key : (e : Entry F) (s : State) (p : Stamp) (a : Act F) → onHeld F e s p a .0 .key ≡ e .key
   unfolding onHeld entryWith
-  onHeld-key e s (start l) = started-key e s l (e .draft)
-  onHeld-key e s (continuation l) = continued-key e s l (e .draft)
-  onHeld-key e s noList = refl
+  onHeld-key e s p (start l) = started-key e s p l (e .draft)
+  onHeld-key e s p (continuation l) = continued-key e s l (e .draft)
+  onHeld-key e s p noList = refl
+  onHeld-key e s p drops = refl
 
   pub onUnheld-key : (r : Bool) (k : Key) (s : State) (a : Act F) → Within (λ e. e .key ≡ k) (onUnheld F r k s a .0)
   unfolding onUnheld fresh
@@ -54,13 +55,14 @@ module _ (F : Family) where
   onUnheld-key false k s (start l) = tt
   onUnheld-key r k s (continuation l) = tt
   onUnheld-key r k s noList = tt
+  onUnheld-key r k s drops = tt
 
   -- the entry that a field of a held key leaves, of one that is not held
   pub effect-key : (r : Bool) (f : Said F) (o : Option (Entry F)) → Within (λ e. e .key ≡ f .key) o
       → Within (λ e. e .key ≡ f .key) (effect F r f o .0)
   unfolding effect kept
   effect-key r f none h = onUnheld-key r (f .key) (f .state) (f .act)
-  effect-key r f (some e) h = onHeld-key e (f .state) (f .act) ∙ h
+  effect-key r f (some e) h = onHeld-key e (f .state) (f .stamp) (f .act) ∙ h
 
   -- the note of a field is its effect's
   pub note-step : (t : List (Entry F)) (f : Said F) → step F t f .1 ≡ effect F (ltb (length t) room) f (find F (f .key) t) .1
@@ -73,6 +75,7 @@ module _ (F : Family) where
   steps-notes t [] = refl
   steps-notes t (f ∷ fs) = ap suc (steps-notes (step F t f .0) fs)
 
+  -- fields after fields, and their notes: waits for R-10 and R-12 (document 02)
   pub steps-append : (t : List (Entry F)) (fs gs : List (Said F)) → steps F t (fs ++ gs) .0 ≡ steps F (steps F t fs .0) gs .0
   unfolding steps
   steps-append t [] gs = refl
@@ -87,7 +90,7 @@ module _ (F : Family) where
 -- ---- looking a key up
 
 module _ (F : Family) (L : Lawful F) where
-  open Family F using (Key, sameKey, keyBefore, Item, sameItem, Names, join, State, room, most)
+  open Family F using (Key, sameKey, keyBefore, room)
 
   -- equal keys test the same, others do not
   pub differ-sym : (k l : Key) → sameKey k l ≡ false → sameKey l k ≡ false
@@ -199,7 +202,7 @@ module _ (F : Family) (L : Lawful F) where
   pub find-step-other : (k : Key) (t : List (Entry F)) (f : Said F) → sameKey k (f .key) ≡ false → find F k (step F t f .0) ≡ find F k t
   find-step-other k t f h = find-step k t f ∙ rw h
 
-  -- fields of other keys leave what is held of a key
+  -- fields of other keys leave what is held of a key: waits for R-10 to R-12 (document 02)
   pub find-steps-other : (k : Key) (t : List (Entry F)) (fs : List (Said F)) → Every (λ f. sameKey k (f .key) ≡ false) fs
       → find F k (steps F t fs .0) ≡ find F k t
   unfolding steps
@@ -209,7 +212,7 @@ module _ (F : Family) (L : Lawful F) where
 -- ---- looking up after open lists are dropped
 
 module _ (F : Family) where
-  open Family F using (Key, sameKey, keyBefore, Item, sameItem, Names, join, State, room, most)
+  open Family F using (Key, sameKey, keyBefore)
 
   pub find-drop : (k : Key) (t : List (Entry F)) → find F k (dropOpen F t) ≡ Option·map (closed F) (find F k t)
   unfolding find dropOpen closed entryWith
@@ -265,7 +268,7 @@ module _ (F : Family) where
       within-imp (λ e. e .key ≡ f .key) (λ e. P (e .key)) (λ e q. rw q p) (effect F r f o .0) (effect-key F r f o w)
 
 module _ (F : Family) (L : Lawful F) where
-  open Family F using (Key, sameKey, keyBefore, Item, sameItem, Names, join, State, room, most)
+  open Family F using (room)
 
   pub every-step : (P : Entry F → Type 0) (t : List (Entry F)) (f : Said F) → Keeps F P f → Every P t → Every P (step F t f .0)
   unfolding step
@@ -283,7 +286,7 @@ module _ (F : Family) (L : Lawful F) where
 -- ---- room
 
 module _ (F : Family) where
-  open Family F using (Key, sameKey, keyBefore, Item, sameItem, Names, join, State, room, most)
+  open Family F using (Key, sameKey, keyBefore, State, room)
 
   pub length-replace : (e : Entry F) (t : List (Entry F)) → length (replace F e t) ≡ length t
   unfolding replace
@@ -316,6 +319,7 @@ module _ (F : Family) where
   unheld-full k s (start l) = refl
   unheld-full k s (continuation l) = refl
   unheld-full k s noList = refl
+  unheld-full k s drops = refl
 
   pub store-same : (old : Option (Entry F)) (t : List (Entry F)) → store F old none t ≡ t
   unfolding store
@@ -378,7 +382,7 @@ module _ (F : Family) where
   every-keys P (e ∷ es) h = (h .0, every-keys P es (h .1))
 
 module _ (F : Family) (L : Lawful F) where
-  open Family F using (Key, sameKey, keyBefore, Item, sameItem, Names, join, State, room, most)
+  open Family F using (Key, sameKey, keyBefore, room)
 
   pub keys-replace : (e : Entry F) (t : List (Entry F)) → heldKeys F (replace F e t) ≡ heldKeys F t
   unfolding heldKeys replace
@@ -475,7 +479,7 @@ module _ (F : Family) (L : Lawful F) where
 -- ---- items: adding
 
 module _ (F : Family) where
-  open Family F using (Key, sameKey, keyBefore, Item, sameItem, Names, join, State, room, most)
+  open Family F using (Key, Item, sameItem, State, Stamp, most)
 
   -- items of which none stands twice
   abbrev pub Different : List Item → Type 0
@@ -547,12 +551,13 @@ module _ (F : Family) where
   Brings Q k (start l) = Q k (opening F l)
   Brings Q k (continuation m) = (d : Listed F) → Q k d → length (extended F d m .items) ≤ most → Q k (extended F d m)
   Brings Q k noList = Unit {0}
+  Brings Q k drops = Unit {0}
 
-  pub lists-started : (Q : Key → Listed F → Type 0) (e : Entry F) (s : State) (l : Listed F) (d : Option (Listed F))
-      → Within (Q (e .key)) (e .shown) → Within (Q (e .key)) d → Q (e .key) (opening F l) → Lists Q (started F e s l d .0)
+  pub lists-started : (Q : Key → Listed F → Type 0) (e : Entry F) (s : State) (p : Stamp) (l : Listed F) (d : Option (Listed F))
+      → Within (Q (e .key)) (e .shown) → Within (Q (e .key)) d → Q (e .key) (opening F l) → Lists Q (started F e s p l d .0)
   unfolding started entryWith
-  lists-started Q e s l none sh h q = (sh, q)
-  lists-started Q e s l (some d) sh h q = (h, q)
+  lists-started Q e s p l none sh h q = (sh, q)
+  lists-started Q e s p l (some d) sh h q = (h, q)
 
   pub lists-continued : (Q : Key → Listed F → Type 0) (e : Entry F) (s : State) (m : Listed F) (d : Option (Listed F))
       → Within (Q (e .key)) (e .shown) → Within (Q (e .key)) d → Brings Q (e .key) (continuation m) → Lists Q (continued F e s m d .0)
@@ -563,12 +568,13 @@ module _ (F : Family) where
       (λ le. (sh, q d h (leb-true (length (extended F d m .items)) most le)))
       (λ gt. (sh, tt))
 
-  pub lists-held : (Q : Key → Listed F → Type 0) (e : Entry F) (s : State) (a : Act F) → Lists Q e → Brings Q (e .key) a
-      → Lists Q (onHeld F e s a .0)
+  pub lists-held : (Q : Key → Listed F → Type 0) (e : Entry F) (s : State) (p : Stamp) (a : Act F) → Lists Q e → Brings Q (e .key) a
+      → Lists Q (onHeld F e s p a .0)
   unfolding onHeld entryWith
-  lists-held Q e s (start l) h q = lists-started Q e s l (e .draft) (h .0) (h .1) q
-  lists-held Q e s (continuation m) h q = lists-continued Q e s m (e .draft) (h .0) (h .1) q
-  lists-held Q e s noList h q = h
+  lists-held Q e s p (start l) h q = lists-started Q e s p l (e .draft) (h .0) (h .1) q
+  lists-held Q e s p (continuation m) h q = lists-continued Q e s m (e .draft) (h .0) (h .1) q
+  lists-held Q e s p noList h q = h
+  lists-held Q e s p drops h q = (h .0, tt)
 
   pub lists-unheld : (Q : Key → Listed F → Type 0) (r : Bool) (k : Key) (s : State) (a : Act F) → Brings Q k a
       → Within (Lists Q) (onUnheld F r k s a .0)
@@ -577,19 +583,20 @@ module _ (F : Family) where
   lists-unheld Q false k s (start l) q = tt
   lists-unheld Q r k s (continuation l) q = tt
   lists-unheld Q r k s noList q = tt
+  lists-unheld Q r k s drops q = tt
 
   -- fields keep a property that their lists have
   pub lists-keep : (Q : Key → Listed F → Type 0) (f : Said F) → Brings Q (f .key) (f .act) → Keeps F (Lists Q) f
   unfolding effect kept
   lists-keep Q f q r none w h = lists-unheld Q r (f .key) (f .state) (f .act) q
-  lists-keep Q f q r (some e) w h = lists-held Q e (f .state) (f .act) h (rw w q)
+  lists-keep Q f q r (some e) w h = lists-held Q e (f .state) (f .stamp) (f .act) h (rw w q)
 
   pub lists-closed : (Q : Key → Listed F → Type 0) (e : Entry F) → Lists Q e → Lists Q (closed F e)
   unfolding closed entryWith
   lists-closed Q e h = (h .0, tt)
 
 module _ (F : Family) (L : Lawful F) where
-  open Family F using (Key, sameKey, keyBefore, Item, sameItem, Names, join, State, room, most)
+  open Family F using (Key, Item, sameItem)
 
   pub lists-steps : (Q : Key → Listed F → Type 0) (t : List (Entry F)) (fs : List (Said F)) → Every (λ f. Brings F Q (f .key) (f .act)) fs
       → Every (Lists F Q) t → Every (Lists F Q) (steps F t fs .0)
@@ -643,75 +650,3 @@ module _ (F : Family) (L : Lawful F) where
   addedAll-new xs (y ∷ ys) d =
       rw (added-new xs y (different-first xs y ys d))
       (addedAll-new (xs ++ y ∷ []) ys (rw (append-assoc xs (y ∷ []) ys) d) ∙ append-assoc xs (y ∷ []) ys)
-
-  -- four properties that fields' lists have: their items are different; they are at most as many as the limit, if a start
-  -- brings no more; they are not empty, if a start brings one; and they are as all that are brought
-  pub brings-different : (k : Key) (a : Act F) → Brings F (λ k l. Different F (l .items)) k a
-  unfolding opening extended
-  brings-different k (start l) = different-addedAll [] (l .items) tt
-  brings-different k (continuation m) = λ d h le. different-addedAll (d .items) (m .items) h
-  brings-different k noList = tt
-
-module _ (F : Family) where
-  open Family F using (Key, sameKey, keyBefore, Item, sameItem, Names, join, State, room, most)
-
-  -- said of what a start brings; said of what a start or a continuation brings
-  abbrev pub Started : (Listed F → Type 0) → Act F → Type 0
-  Started P (start l) = P l
-  Started P (continuation m) = Unit {0}
-  Started P noList = Unit {0}
-
-  abbrev pub Carried : (Listed F → Type 0) → Act F → Type 0
-  Carried P (start l) = P l
-  Carried P (continuation m) = P m
-  Carried P noList = Unit {0}
-
-  pub brings-most : (k : Key) (a : Act F) → Started (λ l. length (l .items) ≤ most) a → Brings F (λ k l. length (l .items) ≤ most) k a
-  unfolding opening
-  brings-most k (start l) h = omega (arith, length-addedAll F [] (l .items))
-  brings-most k (continuation m) h = λ d p le. le
-  brings-most k noList h = tt
-
-  pub opening-some : (xs : List Item) → 1 ≤ length xs → 1 ≤ length (addedAll F [] xs)
-  unfolding addedAll
-  opening-some [] h = h
-  opening-some (x ∷ xs) h = let o = opening-first F x xs in omega (arith, ap length (o .1))
-
-  pub brings-some : (k : Key) (a : Act F) → Started (λ l. 1 ≤ length (l .items)) a → Brings F (λ k l. 1 ≤ length (l .items)) k a
-  unfolding opening extended
-  brings-some k (start l) h = opening-some (l .items) h
-  brings-some k (continuation m) h =
-      λ d p le. let g = addedAll-grows F (d .items) (m .items) in omega (arith, ap length (g .1), length-append (d .items) (g .0))
-  brings-some k noList h = tt
-
-  pub brings-items : (P : Key → Item → Type 0) (k : Key) (a : Act F) → Carried (λ l. Every (P k) (l .items)) a
-      → Brings F (λ k l. Every (P k) (l .items)) k a
-  unfolding opening extended
-  brings-items P k (start l) h = every-addedAll F (P k) [] (l .items) tt h
-  brings-items P k (continuation m) h = λ d p le. every-addedAll F (P k) (d .items) (m .items) p h
-  brings-items P k noList h = tt
-
--- ---- so every list that fields make has all four
-
-module _ (F : Family) (L : Lawful F) where
-  open Family F using (Key, Item, most)
-
-  pub different-steps : (t : List (Entry F)) (fs : List (Said F)) → Every (Lists F (λ k l. Different F (l .items))) t
-      → Every (Lists F (λ k l. Different F (l .items))) (steps F t fs .0)
-  different-steps t fs h =
-      lists-steps F L (λ k l. Different F (l .items)) t fs (every-all _ (λ f. brings-different F L (f .key) (f .act)) fs) h
-
-  pub most-steps : (t : List (Entry F)) (fs : List (Said F)) → Every (λ f. Started F (λ l. length (l .items) ≤ most) (f .act)) fs
-      → Every (Lists F (λ k l. length (l .items) ≤ most)) t → Every (Lists F (λ k l. length (l .items) ≤ most)) (steps F t fs .0)
-  most-steps t fs b h =
-      lists-steps F L (λ k l. length (l .items) ≤ most) t fs (every-imp _ _ (λ f. brings-most F (f .key) (f .act)) fs b) h
-
-  pub some-steps : (t : List (Entry F)) (fs : List (Said F)) → Every (λ f. Started F (λ l. 1 ≤ length (l .items)) (f .act)) fs
-      → Every (Lists F (λ k l. 1 ≤ length (l .items))) t → Every (Lists F (λ k l. 1 ≤ length (l .items))) (steps F t fs .0)
-  some-steps t fs b h = lists-steps F L (λ k l. 1 ≤ length (l .items)) t fs (every-imp _ _ (λ f. brings-some F (f .key) (f .act)) fs b) h
-
-  pub items-steps : (P : Key → Item → Type 0) (t : List (Entry F)) (fs : List (Said F))
-      → Every (λ f. Carried F (λ l. Every (P (f .key)) (l .items)) (f .act)) fs → Every (Lists F (λ k l. Every (P k) (l .items))) t
-      → Every (Lists F (λ k l. Every (P k) (l .items))) (steps F t fs .0)
-  items-steps P t fs b h =
-      lists-steps F L (λ k l. Every (P k) (l .items)) t fs (every-imp _ _ (λ f. brings-items F P (f .key) (f .act)) fs b) h

@@ -12,8 +12,8 @@ use lib.ListN.{length, getElem?}
 use lib.Dec.{leb, ltb}
 use Rattle.rules.specs.declared.Note.{Note}
 use Rattle.rules.specs.declared.Note.the-variants.{ShownAndOpened}
-use Rattle.rules.specs.Family.{Family, Listed, Act, start, continuation, noList, Said, Entry, opening, extended, entryWith, started, continued, onHeld, fresh, onUnheld, kept, effect, find, step, steps, closed, dropOpen, forget}
-use Rattle.rules.specs.Demand3.{heldKeys, Shows, ShowsIn}
+use Rattle.rules.specs.Family.{Family, Listed, Act, start, continuation, noList, drops, Said, Entry, opening, extended, entryWith, started, continued, onHeld, fresh, onUnheld, kept, effect, find, step, steps, closed, dropOpen, forget}
+use Rattle.rules.specs.Receptions.{heldKeys, Shows, ShowsIn}
 use Rattle.rules.proofs.Basics.{cases-bool, none-some, cond-both, Every, Within}
 use Rattle.rules.proofs.FamilyLaws.{Lawful, Ascends, unheld-full, note-step, found-key, find-step-own, find-step-other, find-drop, find-forget}
 use Rattle.rules.proofs.Runs.{StartIn, Fits, fits-step, effect-fits}
@@ -21,7 +21,7 @@ use Rattle.rules.proofs.Runs.{StartIn, Fits, fits-step, effect-fits}
 -- ---- open lists
 
 module _ (F : Family) where
-  open Family F using (Key, sameKey, State, room, most)
+  open Family F using (Key, State, Stamp, most)
 
   -- the open list of what is held of a key
   unfoldable pub openList : Option (Entry F) → Option (Listed F)
@@ -34,11 +34,12 @@ module _ (F : Family) where
   grown (continuation m) none = none
   grown (continuation m) (some d) = cond (leb (length (extended F d m .items)) most) (some (extended F d m)) none
   grown noList o = o
+  grown drops o = none
 
-  pub open-started : (e : Entry F) (s : State) (l : Listed F) (d : Option (Listed F)) → started F e s l d .0 .draft ≡ some (opening F l)
+  pub open-started : (e : Entry F) (s : State) (p : Stamp) (l : Listed F) (d : Option (Listed F)) → started F e s p l d .0 .draft ≡ some (opening F l)
   unfolding started entryWith
-  open-started e s l none = refl
-  open-started e s l (some d) = refl
+  open-started e s p l none = refl
+  open-started e s p l (some d) = refl
 
   pub open-continued : (e : Entry F) (s : State) (m : Listed F) (d : Option (Listed F)) → continued F e s m d .0 .draft ≡ grown (continuation m) d
   unfolding continued entryWith grown
@@ -46,23 +47,25 @@ module _ (F : Family) where
   open-continued e s m (some d) =
       cases-bool (leb (length (extended F d m .items)) most) (λ b. rw b) (λ b. rw b)
 
-  pub open-held : (e : Entry F) (s : State) (a : Act F) → onHeld F e s a .0 .draft ≡ grown a (e .draft)
+  pub open-held : (e : Entry F) (s : State) (p : Stamp) (a : Act F) → onHeld F e s p a .0 .draft ≡ grown a (e .draft)
   unfolding onHeld entryWith
-  open-held e s (start l) = open-started e s l (e .draft) ∙ unfold grown in refl
-  open-held e s (continuation m) = open-continued e s m (e .draft)
-  open-held e s noList = unfold grown in refl
+  open-held e s p (start l) = open-started e s p l (e .draft) ∙ unfold grown in refl
+  open-held e s p (continuation m) = open-continued e s m (e .draft)
+  open-held e s p noList = unfold grown in refl
+  open-held e s p drops = unfold grown in refl
 
   pub open-unheld : (k : Key) (s : State) (a : Act F) → openList (onUnheld F true k s a .0) ≡ grown a none
   unfolding onUnheld fresh openList grown
   open-unheld k s (start l) = refl
   open-unheld k s (continuation m) = refl
   open-unheld k s noList = refl
+  open-unheld k s drops = refl
 
   -- with room, a field makes of an open list what it makes of it
   pub open-effect : (f : Said F) (o : Option (Entry F)) → openList (effect F true f o .0) ≡ grown (f .act) (openList o)
   unfolding effect kept openList
   open-effect f none = open-unheld (f .key) (f .state) (f .act)
-  open-effect f (some e) = open-held e (f .state) (f .act)
+  open-effect f (some e) = open-held e (f .state) (f .stamp) (f .act)
 
   -- without room, no more
   pub open-effect-some : (r : Bool) (f : Said F) (o : Option (Entry F)) (d : Listed F) → openList (effect F r f o .0) ≡ some d
@@ -70,7 +73,7 @@ module _ (F : Family) where
   unfolding effect kept openList
   open-effect-some true f o d h = sym (open-effect f o) ∙ h
   open-effect-some false f none d h = none-some (ap openList (unheld-full F (f .key) (f .state) (f .act))) h
-  open-effect-some false f (some e) d h = sym (open-held e (f .state) (f .act)) ∙ h
+  open-effect-some false f (some e) d h = sym (open-held e (f .state) (f .stamp) (f .act)) ∙ h
 
   -- what is open in one is open in the other
   abbrev pub Same : Option (Listed F) → Option (Listed F) → Type 0
@@ -82,15 +85,16 @@ module _ (F : Family) where
   grown-same (continuation m) none b h d e = none-some refl e
   grown-same (continuation m) (some c) b h d e = rw (h c refl) e
   grown-same noList w b h d e = h d e
+  grown-same drops w b h d e = e
 
   -- ---- a field that comes to show a set
 
   -- is a start of a key with an open list
-  pub shows-started : (e : Entry F) (s : State) (l : Listed F) (d : Option (Listed F)) → started F e s l d .1 ≡ ShownAndOpened
+  pub shows-started : (e : Entry F) (s : State) (p : Stamp) (l : Listed F) (d : Option (Listed F)) → started F e s p l d .1 ≡ ShownAndOpened
       → (c : Listed F) × (d ≡ some c)
   unfolding started
-  shows-started e s l none h = let z : _≡_ {A = ℕ} 0 1 = cc in absurd (omega arith)
-  shows-started e s l (some d) h = (d, refl)
+  shows-started e s p l none h = let z : _≡_ {A = ℕ} 0 1 = cc in absurd (omega arith)
+  shows-started e s p l (some d) h = (d, refl)
 
   pub shows-continued : (e : Entry F) (s : State) (m : Listed F) (d : Option (Listed F)) → continued F e s m d .1 ≡ ShownAndOpened → ⊥
   unfolding continued
@@ -99,12 +103,13 @@ module _ (F : Family) where
       cond-both (λ (r : Entry F × Note). r .1 ≡ ShownAndOpened → ⊥) (leb (length (extended F d m .items)) most) _ _
       (λ h. let z : _≡_ {A = ℕ} 0 1 = cc in omega arith) (λ h. let z : _≡_ {A = ℕ} 0 1 = cc in omega arith)
 
-  pub shows-held : (e : Entry F) (s : State) (a : Act F) → onHeld F e s a .1 ≡ ShownAndOpened
+  pub shows-held : (e : Entry F) (s : State) (p : Stamp) (a : Act F) → onHeld F e s p a .1 ≡ ShownAndOpened
       → (l : Listed F) × (c : Listed F) × (a ≡ start l) × (e .draft ≡ some c)
   unfolding onHeld
-  shows-held e s (start l) h = let p = shows-started e s l (e .draft) h in (l, p .0, refl, p .1)
-  shows-held e s (continuation m) h = absurd (shows-continued e s m (e .draft) h)
-  shows-held e s noList h = let z : _≡_ {A = ℕ} 0 1 = cc in absurd (omega arith)
+  shows-held e s p (start l) h = let c = shows-started e s p l (e .draft) h in (l, c .0, refl, c .1)
+  shows-held e s p (continuation m) h = absurd (shows-continued e s m (e .draft) h)
+  shows-held e s p noList h = let z : _≡_ {A = ℕ} 0 1 = cc in absurd (omega arith)
+  shows-held e s p drops h = let z : _≡_ {A = ℕ} 0 1 = cc in absurd (omega arith)
 
   pub shows-unheld : (r : Bool) (k : Key) (s : State) (a : Act F) → onUnheld F r k s a .1 ≡ ShownAndOpened → ⊥
   unfolding onUnheld
@@ -112,17 +117,18 @@ module _ (F : Family) where
   shows-unheld false k s (start l) h = let z : _≡_ {A = ℕ} 0 1 = cc in omega arith
   shows-unheld r k s (continuation m) h = let z : _≡_ {A = ℕ} 0 1 = cc in omega arith
   shows-unheld r k s noList h = let z : _≡_ {A = ℕ} 0 1 = cc in omega arith
+  shows-unheld r k s drops h = let z : _≡_ {A = ℕ} 0 1 = cc in omega arith
 
   pub shows-start : (r : Bool) (f : Said F) (o : Option (Entry F)) → effect F r f o .1 ≡ ShownAndOpened
       → (l : Listed F) × (c : Listed F) × (f .act ≡ start l) × (openList o ≡ some c)
   unfolding effect kept openList
   shows-start r f none h = absurd (shows-unheld r (f .key) (f .state) (f .act) h)
-  shows-start r f (some e) h = shows-held e (f .state) (f .act) h
+  shows-start r f (some e) h = shows-held e (f .state) (f .stamp) (f .act) h
 
-  -- and such a start shows that list, with its own key and state
+  -- and such a start shows that list, with its own key, state and stamp
   pub start-shows : (r : Bool) (f : Said F) (o : Option (Entry F)) (l c : Listed F) → f .act ≡ start l → openList o ≡ some c
       → Within (λ e. e .key ≡ f .key) o
-      → effect F r f o ≡ (some (record { key = f .key; state = f .state; shown = some c; draft = some (opening F l) }), ShownAndOpened)
+      → effect F r f o ≡ (some (record { key = f .key; state = f .state; shown = some c; draft = some (opening F l); stamp = f .stamp }), ShownAndOpened)
   unfolding effect kept openList onHeld started entryWith
   start-shows r f none l c a d w = none-some refl d
   start-shows r f (some e) l c a d w = rw a (rw d (rw w))
@@ -134,7 +140,7 @@ abbrev pub Leads : (F : Family) → List (Entry F) → List (Entry F) → Type 0
 Leads F b w = (k : F .Key) → Same F (openList F (find F k w)) (openList F (find F k b))
 
 module _ (F : Family) (L : Lawful F) where
-  open Family F using (Key, sameKey, State, room, most)
+  open Family F using (Key, sameKey, State, room)
 
   pub leads-self : (t : List (Entry F)) → Leads F t t
   leads-self t k d h = h
@@ -216,7 +222,7 @@ module _ (F : Family) (L : Lawful F) where
   shows-single t (f ∷ fs) (suc j) k k' s s' l l' a b = shows-single (step F t f .0) fs j k k' s s' l l' a b
   shows-single t (f ∷ fs) zero k k' s s' l l' a b =
       let p = sym (a .found) ∙ b .found in
-      let q : _≡_ {A = Entry F} (record { key = k; state = s; shown = some l; draft = a .draft }) (record { key = k'; state = s'; shown = some l'; draft = b .draft }) = cc in
+      let q : _≡_ {A = Entry F} (record { key = k; state = s; shown = some l; draft = a .draft; stamp = f .stamp }) (record { key = k'; state = s'; shown = some l'; draft = b .draft; stamp = f .stamp }) = cc in
       let m : _≡_ {A = Option (Listed F)} (some l) (some l') = ap (λ (e : Entry F). e .shown) q in
       let n : l ≡ l' = cc in
       (ap (λ (e : Entry F). e .key) q, ap (λ (e : Entry F). e .state) q, n)

@@ -5,7 +5,7 @@ use native.Mathlib.Omega.{arith}
 use mathlib.Core.Path.{_≡_, refl, sym, _∙_, ap, ap₂, subst}
 use mathlib.Core.Bool.{Bool, true, false, cond}
 use mathlib.Core.List.{List, [], _∷_, _++_, map}
-use mathlib.Core.Option.{Option, none, some}
+use mathlib.Core.Option.{none}
 use lib.ListN.{length, getD, take, drop, length-append, length-drop, length-map}
 use lib.Seq.{take-append-le, drop-append-le}
 use lib.Dec.{ltb, eqb}
@@ -14,12 +14,13 @@ use Rattle.rules.specs.declared.Outcome.{Outcome}
 use Rattle.rules.specs.declared.Outcome.the-variants.{Done, NotABlock}
 use Rattle.rules.specs.Block.{Walk, whole, broken, Fig, figs, checkHolds}
 use Rattle.rules.specs.Field.{Field, keyOf, Pair, pair, pairsOf, startPairs, firstKind, namedBy, hasList, isContinuation, width, rds, drm, wrongValue, emptyStart}
-use Rattle.rules.specs.Family.{start, continuation, noList, addedAll, opening, extended, entryWith, steps, closed, dropOpen, forget}
-use Rattle.rules.specs.Collecting.{joinNames, linkage, IdSet, Held, Content, brings, actOf, said, keyWidth, firstIsDab, kindNamed, namesMeet, meets, Shown, showing, shownSets}
-use Rattle.rules.specs.Outcomes.{numberOf, Verdict, taken, refused, noBlock, judgeFields, judgeFigs, verdict, Answer, answerTo, readBlock, readBlocks, readRecording, leftOver, allFields, some?}
-use Rattle.rules.proofs.Basics.{cases-bool, true-false, cond-cases, cond-both, Every, every-imp, every-both, every-map, every-from, every-take, every-drop}
-use Rattle.rules.proofs.FamilyLaws.{Keeps, Lists, Brings, keeps-key, every-steps, every-forget, every-drop-open, room-steps, length-drop-open, length-forget, ascends-steps, ascends-drop-open, ascends-forget, different-addedAll, addedAll-first, opening-first, length-addedAll, every-addedAll, lists-steps, lists-closed, steps-notes}
-use Rattle.rules.proofs.TableRules.{lawful, dab-named, names-small, PairMeets, SetMeets, KeyMeets, EntryMeets, Meets, table-meets, join-mod, join-div, join-zero, kind-cases}
+use Rattle.rules.specs.Family.{start, continuation, noList, addedAll, opening, extended, steps, dropOpen, forget}
+use Rattle.rules.specs.Collecting.{joinNames, linkage, IdSet, Entries, Content, linkageRules, withSets, brings, actOf, said, keyWidth, notEmpty, mayBegin, beginsRight, kindNamed, namesMeet, meets}
+use Rattle.rules.specs.Outcomes.{numberOf, Verdict, taken, refused, noBlock, judgeFields, judgeFigs, verdict, Answer, answerTo, readBlock, readBlocks, readRecording, leftOver, forgotten, allFields, some?}
+use Rattle.rules.proofs.Basics.{cases-bool, true-false, cond-cases, cond-both, Every, every-imp, every-map, every-from, every-take, every-drop}
+use Rattle.rules.proofs.FamilyLaws.{Brings, different-addedAll, addedAll-first, opening-first, length-addedAll, every-addedAll, steps-notes}
+use Rattle.rules.proofs.FamilyRules.{FieldMeets, table-steps, table-drop-open, table-forget}
+use Rattle.rules.proofs.TableRules.{lawful, dab-named, names-small, dab-begins, PairMeets, SetMeets, KeyMeets, meaning, Meets, table-meets, join-mod, join-div, join-zero, kind-cases}
 use Rattle.rules.proofs.Taken.{Bytes, FieldBits, GoodField, taken-good, taken-few}
 
 -- ---- names of two lists together
@@ -107,15 +108,24 @@ unfolding startPairs pair
 start-pairs w n k q h i [] b = tt
 start-pairs w n k q h i (x ∷ ns) b = ((b .0, h), kind-pairs w n q i ns (b .1))
 
+-- a start's first identifier is of a kind that may begin a set of the field's key, and that the field names if it has a name
+pub first-begins : (f : Field) → GoodField f → mayBegin (keyOf f) (firstKind (f .oe) (f .qualifier)) ≡ true
+unfolding firstKind
+first-begins f g = dab-begins (keyOf f)
+
+pub first-named : (f : Field) → GoodField f → kindNamed (namedBy (f .qualifier)) (firstKind (f .oe) (f .qualifier)) ≡ true
+unfolding firstKind
+first-named f g = dab-named (namedBy (f .qualifier))
+
 pub field-pairs : (f : Field) → GoodField f → Every (PairMeets (keyWidth (keyOf f)) (namedBy (f .qualifier))) (pairsOf f)
-unfolding pairsOf firstKind
+unfolding pairsOf
 field-pairs f g =
     let b = g .bits in
     let q = own-named (f .qualifier) (b .qualifier) (g .reserved) in
     rw (key-width f b)
     (cond-both (Every (PairMeets (width (f .pd) (f .ils)) (namedBy (f .qualifier)))) (isContinuation f) _ _
     (kind-pairs (width (f .pd) (f .ils)) (namedBy (f .qualifier)) (f .qualifier) q (f .numbers) (b .within))
-    (start-pairs (width (f .pd) (f .ils)) (namedBy (f .qualifier)) 0 (f .qualifier) (dab-named (namedBy (f .qualifier))) q (f .numbers) (b .within)))
+    (start-pairs (width (f .pd) (f .ils)) (namedBy (f .qualifier)) (firstKind (f .oe) (f .qualifier)) (f .qualifier) (first-named f g) q (f .numbers) (b .within)))
 
 pub length-start-pairs : (k q : ℕ) (ns : List ℕ) → length (startPairs k q ns) ≡ length ns
 unfolding startPairs
@@ -126,24 +136,41 @@ pub length-pairs : (f : Field) → length (pairsOf f) ≡ length (f .numbers)
 unfolding pairsOf
 length-pairs f =
     cond-both (λ (ps : List Pair). length ps ≡ length (f .numbers)) (isContinuation f) _ _
-    (length-map (f .numbers) (pair (f .qualifier))) (length-start-pairs (firstKind f) (f .qualifier) (f .numbers))
+    (length-map (f .numbers) (pair (f .qualifier))) (length-start-pairs (firstKind (f .oe) (f .qualifier)) (f .qualifier) (f .numbers))
 
--- the first of a start is a DAB service, and stays the first
-pub start-first : (q : ℕ) (ns : List ℕ) → 1 ≤ length ns → firstIsDab (addedAll linkage [] (startPairs 0 q ns)) ≡ true
-unfolding startPairs pair firstIsDab
-start-first q [] h = absurd (omega arith)
-start-first q (n ∷ ns) h =
-    let o = opening-first linkage (pair 0 n) (map (pair q) ns) in
+-- a start that brings something opens a list with something, and no list becomes empty
+pub added-some : (ps qs : List Pair) → notEmpty ps ≡ true → notEmpty (addedAll linkage ps qs) ≡ true
+unfolding notEmpty
+added-some [] qs h = true-false h refl
+added-some (p ∷ ps) qs h = let o = addedAll-first linkage p ps qs in rw (o .1) refl
+
+pub start-some : (first q : ℕ) (ns : List ℕ) → 1 ≤ length ns → notEmpty (addedAll linkage [] (startPairs first q ns)) ≡ true
+unfolding startPairs notEmpty
+start-some first q [] h = absurd (omega arith)
+start-some first q (n ∷ ns) h =
+    let o = opening-first linkage (pair first n) (map (pair q) ns) in
     rw (o .1) refl
 
-pub added-first : (ps qs : List Pair) → firstIsDab ps ≡ true → firstIsDab (addedAll linkage ps qs) ≡ true
-unfolding firstIsDab
-added-first [] qs h = true-false h refl
-added-first (p ∷ ps) qs h = let o = addedAll-first linkage p ps qs in rw (o .1) h
+pub field-some : (f : Field) → GoodField f → hasList f ≡ true → isContinuation f ≡ false → notEmpty (addedAll linkage [] (pairsOf f)) ≡ true
+unfolding pairsOf
+field-some f g h c = rw c (start-some (firstKind (f .oe) (f .qualifier)) (f .qualifier) (f .numbers) (g .start h c))
 
-pub field-first : (f : Field) → GoodField f → hasList f ≡ true → isContinuation f ≡ false → firstIsDab (addedAll linkage [] (pairsOf f)) ≡ true
-unfolding pairsOf firstKind
-field-first f g h c = rw c (start-first (f .qualifier) (f .numbers) (g .start h c))
+-- the first of a start is of a kind that may begin the set, and stays the first
+pub start-first : (k first q : ℕ) (ns : List ℕ) → mayBegin k first ≡ true → beginsRight k (addedAll linkage [] (startPairs first q ns)) ≡ true
+unfolding startPairs pair beginsRight addedAll
+start-first k first q [] m = refl
+start-first k first q (n ∷ ns) m =
+    let o = opening-first linkage (pair first n) (map (pair q) ns) in
+    rw (o .1) m
+
+pub added-first : (k : ℕ) (ps qs : List Pair) → notEmpty ps ≡ true → beginsRight k ps ≡ true → beginsRight k (addedAll linkage ps qs) ≡ true
+unfolding notEmpty beginsRight
+added-first k [] qs s h = true-false s refl
+added-first k (p ∷ ps) qs s h = let o = addedAll-first linkage p ps qs in rw (o .1) h
+
+pub field-first : (f : Field) → GoodField f → isContinuation f ≡ false → beginsRight (keyOf f) (addedAll linkage [] (pairsOf f)) ≡ true
+unfolding pairsOf
+field-first f g c = rw c (start-first (keyOf f) (firstKind (f .oe) (f .qualifier)) (f .qualifier) (f .numbers) (first-begins f g))
 
 -- the list that a start opens
 pub start-meets : (f : Field) → GoodField f → hasList f ≡ true → isContinuation f ≡ false → SetMeets (keyOf f) (opening linkage (brings f))
@@ -151,7 +178,8 @@ unfolding opening brings
 start-meets f g h c =
     record {
       short = omega (arith, length-addedAll linkage [] (pairsOf f), length-pairs f, g .bits .few);
-      first = field-first f g h c;
+      some = field-some f g h c;
+      first = field-first f g c;
       differ = different-addedAll linkage lawful [] (pairsOf f) tt;
       pairs = every-addedAll linkage (PairMeets (keyWidth (keyOf f)) (namedBy (f .qualifier))) [] (pairsOf f) tt (field-pairs f g);
       names = field-names f g;
@@ -168,7 +196,8 @@ continued-meets f d g m l =
     let wide = PairMeets w (joinNames (d .named) named) in
     record {
       short = l;
-      first = added-first (d .items) (pairsOf f) (m .first);
+      some = added-some (d .items) (pairsOf f) (m .some);
+      first = added-first (keyOf f) (d .items) (pairsOf f) (m .some) (m .first);
       differ = different-addedAll linkage lawful (d .items) (pairsOf f) (m .differ);
       pairs =
           every-addedAll linkage wide (d .items) (pairsOf f)
@@ -188,40 +217,17 @@ field-brings f g =
 
 -- ---- the table rules are kept
 
-pub meets-steps : (t : Content) (fs : List Field) → Every GoodField fs → Meets t → Meets (steps linkage t (map said fs) .0)
+pub meets-steps : (t : Entries) (fs : List Field) → Every GoodField fs → Meets t → Meets (steps linkage t (map said fs) .0)
 unfolding said
 meets-steps t fs g m =
-    record {
-      few = room-steps linkage t (map said fs) (m .few);
-      ascend = ascends-steps linkage lawful t (map said fs) (m .ascend);
-      entries =
-          every-both (λ e. KeyMeets (e .key)) (Lists linkage SetMeets) EntryMeets (λ e k l. (k, l)) (steps linkage t (map said fs) .0)
-          (every-steps linkage lawful (λ e. KeyMeets (e .key)) t (map said fs)
-          (every-map (Keeps linkage (λ e. KeyMeets (e .key))) said fs
-          (every-imp GoodField (λ f. Keeps linkage (λ e. KeyMeets (e .key)) (said f)) (λ f g. keeps-key linkage KeyMeets (said f) (field-key f g)) fs g))
-          (every-imp EntryMeets (λ e. KeyMeets (e .key)) (λ e h. h .0) t (m .entries)))
-          (lists-steps linkage lawful SetMeets t (map said fs)
-          (every-map (λ f. Brings linkage SetMeets (f .key) (f .act)) said fs
-          (every-imp GoodField (λ f. Brings linkage SetMeets (keyOf f) (actOf f)) field-brings fs g))
-          (every-imp EntryMeets (Lists linkage SetMeets) (λ e h. h .1) t (m .entries)));
-    }
+    let good = every-imp GoodField (λ f. FieldMeets linkage linkageRules meaning (said f)) (λ f h. (field-key f h, field-brings f h, λ l. tt)) fs g in
+    table-steps linkage lawful linkageRules meaning t (map said fs) (every-map (FieldMeets linkage linkageRules meaning) said fs good) m
 
-pub meets-drop-open : (t : Content) → Meets t → Meets (dropOpen linkage t)
-unfolding closed entryWith
-meets-drop-open t m =
-    record {
-      few = rw (length-drop-open linkage t) (m .few);
-      ascend = ascends-drop-open linkage lawful t (m .ascend);
-      entries = every-drop-open linkage EntryMeets t (λ e h. (h .0, lists-closed linkage SetMeets e (h .1))) (m .entries);
-    }
+pub meets-drop-open : (t : Entries) → Meets t → Meets (dropOpen linkage t)
+meets-drop-open t m = table-drop-open linkage lawful linkageRules meaning t m
 
-pub meets-forget : (k : ℕ) (t : Content) → Meets t → Meets (forget linkage k t)
-meets-forget k t m =
-    record {
-      few = omega (arith, length-forget linkage k t, m .few);
-      ascend = ascends-forget linkage lawful k t (m .ascend);
-      entries = every-forget linkage EntryMeets k t (m .entries);
-    }
+pub meets-forget : (k : ℕ) (t : Entries) → Meets t → Meets (forget linkage k t)
+meets-forget k t m = table-forget linkage lawful linkageRules meaning k t m
 
 -- ---- reading a block
 
@@ -232,12 +238,12 @@ cases-verdict (refused o) t r n = r o refl
 cases-verdict noBlock t r n = n refl
 
 pub answer-taken : (t : Content) (fib : List ℕ) (fs : List Field) → verdict fib ≡ taken fs
-    → readBlock t fib ≡ record { outcome = Done; notes = steps linkage t (map said fs) .1; left = steps linkage t (map said fs) .0 }
+    → readBlock t fib ≡ record { outcome = Done; notes = steps linkage (t .sets) (map said fs) .1; left = withSets t (steps linkage (t .sets) (map said fs) .0) }
 unfolding readBlock answerTo
 answer-taken t fib fs e = rw e
 
 pub answer-refused : (t : Content) (fib : List ℕ) (o : Outcome) → verdict fib ≡ refused o
-    → readBlock t fib ≡ record { outcome = o; notes = []; left = dropOpen linkage t }
+    → readBlock t fib ≡ record { outcome = o; notes = []; left = withSets t (dropOpen linkage (t .sets)) }
 unfolding readBlock answerTo
 answer-refused t fib o e = rw e
 
@@ -249,33 +255,34 @@ answer-none t fib e = rw e
 pub bytes-list : (fib : List ℕ) → ((i : ℕ) → getD fib i 0 < 256) → Bytes fib
 bytes-list fib h = every-from (λ b. b < 256) 0 fib h
 
-pub meets-block : (t : Content) (fib : List ℕ) → Bytes fib → Meets t → Meets (readBlock t fib .left)
+pub meets-block : (t : Content) (fib : List ℕ) → Bytes fib → Meets (t .sets) → Meets (readBlock t fib .left .sets)
 meets-block t fib b m =
     cases-verdict (verdict fib)
-    (λ fs e. subst (λ (a : Answer). Meets (a .left)) (sym (answer-taken t fib fs e)) (meets-steps t fs (taken-good fib fs b e) m))
-    (λ o e. subst (λ (a : Answer). Meets (a .left)) (sym (answer-refused t fib o e)) (meets-drop-open t m))
-    (λ e. subst (λ (a : Answer). Meets (a .left)) (sym (answer-none t fib e)) m)
+    (λ fs e. subst (λ (a : Answer). Meets (a .left .sets)) (sym (answer-taken t fib fs e)) (meets-steps (t .sets) fs (taken-good fib fs b e) m))
+    (λ o e. subst (λ (a : Answer). Meets (a .left .sets)) (sym (answer-refused t fib o e)) (meets-drop-open (t .sets) m))
+    (λ e. subst (λ (a : Answer). Meets (a .left .sets)) (sym (answer-none t fib e)) m)
 
 -- reading a block of bytes keeps the table rules
 pub block-keeps : (t : Content) (fib : List ℕ) → ((i : ℕ) → getD fib i 0 < 256) → meets t ≡ true → meets (readBlock t fib .left) ≡ true
-block-keeps t fib b h = table-meets (readBlock t fib .left) .1 (meets-block t fib (bytes-list fib b) (table-meets t .0 h))
+block-keeps t fib b h = table-meets (readBlock t fib .left .sets) .1 (meets-block t fib (bytes-list fib b) (table-meets (t .sets) .0 h))
 
 -- and so does forgetting
-pub forget-keeps : (k : ℕ) (t : Content) → meets t ≡ true → meets (forget linkage k t) ≡ true
-forget-keeps k t h = table-meets (forget linkage k t) .1 (meets-forget k t (table-meets t .0 h))
+pub forget-keeps : (k : ℕ) (t : Content) → meets t ≡ true → meets (forgotten k t) ≡ true
+unfolding forgotten
+forget-keeps k t h = table-meets (forget linkage k (t .sets)) .1 (meets-forget k (t .sets) (table-meets (t .sets) .0 h))
 
 -- at most 14 notes
 pub notes-few : (t : Content) (fib : List ℕ) → length (readBlock t fib .notes) ≤ 14
 notes-few t fib =
     cases-verdict (verdict fib)
     (λ fs e. subst (λ (a : Answer). length (a .notes) ≤ 14) (sym (answer-taken t fib fs e))
-    (omega (arith, steps-notes linkage t (map said fs), length-map fs said, taken-few fib fs e)))
+    (omega (arith, steps-notes linkage (t .sets) (map said fs), length-map fs said, taken-few fib fs e)))
     (λ o e. subst (λ (a : Answer). length (a .notes) ≤ 14) (sym (answer-refused t fib o e)) (omega arith))
     (λ e. subst (λ (a : Answer). length (a .notes) ≤ 14) (sym (answer-none t fib e)) (omega arith))
 
 -- one note for each field of a taken block
 pub notes-fields : (t : Content) (fib : List ℕ) (fs : List Field) → verdict fib ≡ taken fs → length (readBlock t fib .notes) ≡ length fs
-notes-fields t fib fs e = rw (answer-taken t fib fs e) (steps-notes linkage t (map said fs) ∙ length-map fs said)
+notes-fields t fib fs e = rw (answer-taken t fib fs e) (steps-notes linkage (t .sets) (map said fs) ∙ length-map fs said)
 
 -- ---- refused blocks
 
@@ -351,7 +358,7 @@ no-block t fib h = answer-none t fib (unfold verdict in rw (ne-eqb (length fib) 
 
 -- ---- recordings
 
-pub meets-blocks : (n : ℕ) (t : Content) (bytes : List ℕ) → Bytes bytes → Meets t → Meets (readBlocks n t bytes)
+pub meets-blocks : (n : ℕ) (t : Content) (bytes : List ℕ) → Bytes bytes → Meets (t .sets) → Meets (readBlocks n t bytes .sets)
 unfolding readBlocks
 meets-blocks zero t bytes b m = m
 meets-blocks (suc n) t bytes b m =
@@ -361,7 +368,7 @@ meets-blocks (suc n) t bytes b m =
 pub recording-keeps : (t : Content) (bytes : List ℕ) → ((i : ℕ) → getD bytes i 0 < 256) → meets t ≡ true → meets (readRecording t bytes) ≡ true
 unfolding readRecording
 recording-keeps t bytes b h =
-    table-meets (readBlocks (length bytes / 32) t bytes) .1 (meets-blocks (length bytes / 32) t bytes (bytes-list bytes b) (table-meets t .0 h))
+    table-meets (readBlocks (length bytes / 32) t bytes .sets) .1 (meets-blocks (length bytes / 32) t bytes (bytes-list bytes b) (table-meets (t .sets) .0 h))
 
 -- whole blocks first, then the rest
 pub blocks-append : (n m k : ℕ) (t : Content) (a b : List ℕ) → n ≡ m + k → length a ≡ 32 * m

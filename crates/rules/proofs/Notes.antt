@@ -1,4 +1,4 @@
--- What a note says of its field, by its number (document 01, Collecting), over any family: when it is given, for each of the eight, and that
+-- What a note says of its field, by its number (document 01, Collecting), over any family: when it is given, for each of the nine, and that
 -- there are no others.
 use Prim.Native.Nat.{ℕ, _≤_, _<_}
 use mathlib.Core.Path.{_≡_, refl}
@@ -7,9 +7,9 @@ use mathlib.Core.Option.{Option, none, some}
 use lib.ListN.{length}
 use lib.Dec.{leb}
 use borrow.Author.Tests.{leb-true, leb-false}
-use Rattle.rules.specs.Family.{Family, Listed, Act, start, continuation, noList, Said, Entry, extended, started, continued, onHeld, onUnheld, kept, effect}
+use Rattle.rules.specs.Family.{Family, Listed, Act, start, continuation, noList, drops, Said, Entry, extended, started, continued, onHeld, onUnheld, kept, effect}
 use Rattle.rules.specs.Outcomes.{noteNumber}
-use Rattle.rules.proofs.Basics.{cases-bool, cases-option}
+use Rattle.rules.proofs.Basics.{cases-bool}
 
 module _ (F : Family) where
   -- with room for one key more or not, what is held of the field's key, and what the field asks for
@@ -31,15 +31,18 @@ module _ (F : Family) where
         → F .most < length (extended F d l .items) → NoteSays room held act 6
     -- 7, state only: a field without a list, of a held key
     stateOnly : (e : Entry F) → act ≡ noList → held ≡ some e → NoteSays room held act 7
-    -- 8, unknown key: a continuation, or a field without a list, of a key that is not held
+    -- 8, unknown key: any field but a start, of a key that is not held
     unknownList : (l : Listed F) → act ≡ continuation l → held ≡ none → NoteSays room held act 8
     unknownState : act ≡ noList → held ≡ none → NoteSays room held act 8
+    unknownDrop : act ≡ drops → held ≡ none → NoteSays room held act 8
+    -- 9, dropped: a field of a held key that drops its open list
+    dropped : (e : Entry F) → act ≡ drops → held ≡ some e → NoteSays room held act 9
 
-  started-says : (r : Bool) (e : Entry F) (l : Listed F) (s : F .State) (d : Option (Listed F)) → e .draft ≡ d
-      → NoteSays r (some e) (start l) (noteNumber (started F e s l d .1))
+  started-says : (r : Bool) (e : Entry F) (l : Listed F) (s : F .State) (p : F .Stamp) (d : Option (Listed F)) → e .draft ≡ d
+      → NoteSays r (some e) (start l) (noteNumber (started F e s p l d .1))
   unfolding started noteNumber
-  started-says r e l s none h = opened l e refl refl h
-  started-says r e l s (some d) h = shownAndOpened l d e refl refl h
+  started-says r e l s p none h = opened l e refl refl h
+  started-says r e l s p (some d) h = shownAndOpened l d e refl refl h
 
   continued-says : (r : Bool) (e : Entry F) (l : Listed F) (s : F .State) (d : Option (Listed F)) → e .draft ≡ d
       → NoteSays r (some e) (continuation l) (noteNumber (continued F e s l d .1))
@@ -50,11 +53,12 @@ module _ (F : Family) where
       (λ b. rw b (added l d e refl refl h (leb-true _ _ b)))
       (λ b. rw b (tooLong l d e refl refl h (leb-false _ _ b)))
 
-  held-says : (r : Bool) (e : Entry F) (s : F .State) (a : Act F) → NoteSays r (some e) a (noteNumber (onHeld F e s a .1))
+  held-says : (r : Bool) (e : Entry F) (s : F .State) (p : F .Stamp) (a : Act F) → NoteSays r (some e) a (noteNumber (onHeld F e s p a .1))
   unfolding onHeld noteNumber
-  held-says r e s (start l) = started-says r e l s (e .draft) refl
-  held-says r e s (continuation l) = continued-says r e l s (e .draft) refl
-  held-says r e s noList = stateOnly e refl refl
+  held-says r e s p (start l) = started-says r e l s p (e .draft) refl
+  held-says r e s p (continuation l) = continued-says r e l s (e .draft) refl
+  held-says r e s p noList = stateOnly e refl refl
+  held-says r e s p drops = dropped e refl refl
 
   unheld-says : (r : Bool) (k : F .Key) (s : F .State) (a : Act F) → NoteSays r none a (noteNumber (onUnheld F r k s a .1))
   unfolding onUnheld noteNumber
@@ -64,9 +68,11 @@ module _ (F : Family) where
   unheld-says false k s (continuation l) = unknownList l refl refl
   unheld-says true k s noList = unknownState refl refl
   unheld-says false k s noList = unknownState refl refl
+  unheld-says true k s drops = unknownDrop refl refl
+  unheld-says false k s drops = unknownDrop refl refl
 
   -- the note of a field
   pub note-says : (room : Bool) (f : Said F) (held : Option (Entry F)) → NoteSays room held (f .act) (noteNumber (effect F room f held .1))
   unfolding effect kept
   note-says room f none = unheld-says room (f .key) (f .state) (f .act)
-  note-says room f (some e) = held-says room e (f .state) (f .act)
+  note-says room f (some e) = held-says room e (f .state) (f .stamp) (f .act)

@@ -1,6 +1,7 @@
 -- Runs over a family: blocks that are taken or refused, what is ignored, and keys that are forgotten, one after the other.
--- In this order: the operations and a run of them; the laws of FamilyLaws for runs; a table is never full where the distinct
+-- In this order: a run of operations; the laws of FamilyLaws for runs; a table is never full where the distinct
 -- keys held or started are at most its room; there, what is held of one key is worked out from its own fields alone.
+-- What nothing uses yet of these laws waits for R-10 and R-11 (document 02).
 use Prim.Native.Nat.{suc, _≤_}
 use native.Mathlib.Omega.{arith}
 use mathlib.Core.Path.{_≡_, refl, _∙_, ap}
@@ -11,57 +12,45 @@ use lib.ListN.{length}
 use lib.Dec.{ltb}
 use borrow.Author.Tests.{lt-ltb}
 use Rattle.rules.specs.declared.Note.{Note}
-use Rattle.rules.specs.Family.{Family, Listed, Act, start, continuation, noList, Said, Entry, fresh, onUnheld, kept, entryWith, effect, find, insert, step, steps, closed, dropOpen, forget}
-use Rattle.rules.specs.Demand3.{heldKeys, ifStart, startedKeys, among, once}
+use Rattle.rules.specs.Family.{Family, Listed, Act, start, continuation, noList, drops, Said, Entry, fresh, onUnheld, kept, entryWith, effect, find, insert, step, steps, closed, dropOpen, forget}
+use Rattle.rules.specs.Receptions.{heldKeys, ifStart, startedKeys, among, once, Op, takes, refuses, ignores, forgets, afterOp, saidIn, startedRun, keysRun}
 use Rattle.rules.proofs.Basics.{cases-bool, cases-option, true-false, or-left, or-right, or-cases, cond-both, cond-cases, Every, every-imp, every-both, every-left, every-right, Within}
 use Rattle.rules.proofs.FamilyLaws.{Lawful, Keeps, Ascends, Lists, Brings, every-step, every-steps, every-insert, every-forget, every-drop-open, room-steps, length-drop-open, length-forget, length-insert, ascends-insert, ascends-step, ascends-steps, ascends-drop-open, ascends-forget, lists-steps, lists-closed, find-step, find-drop, find-forget, find-forget-own, find-none-past, every-keys, onHeld-key, differ-sym}
 
--- ---- operations, and a run of them
+-- ---- a run of operations
 
 module _ (F : Family) where
-  pub data Op : Type 0 where
-    takes : List (Said F) → Op
-    refuses : Op
-    ignores : Op
-    forgets : F .Key → Op
-
-  unfoldable pub afterOp : List (Entry F) → Op → List (Entry F)
-  afterOp t (takes fs) = steps F t fs .0
-  afterOp t refuses = dropOpen F t
-  afterOp t ignores = t
-  afterOp t (forgets k) = forget F k t
-
-  unfoldable pub run : List (Entry F) → List Op → List (Entry F)
+  unfoldable pub run : List (Entry F) → List (Op F) → List (Entry F)
   run t [] = t
-  run t (o ∷ os) = run (afterOp t o) os
+  run t (o ∷ os) = run (afterOp F t o) os
 
-  pub run-append : (t : List (Entry F)) (os ps : List Op) → run t (os ++ ps) ≡ run (run t os) ps
+  pub run-append : (t : List (Entry F)) (os ps : List (Op F)) → run t (os ++ ps) ≡ run (run t os) ps
   unfolding run
   run-append t [] ps = refl
-  run-append t (o ∷ os) ps = run-append (afterOp t o) os ps
+  run-append t (o ∷ os) ps = run-append (afterOp F t o) os ps
 
   -- said of every field of every taken block
-  abbrev pub InFields : (Said F → Type 0) → Op → Type 0
+  abbrev pub InFields : (Said F → Type 0) → Op F → Type 0
   InFields P (takes fs) = Every P fs
   InFields P refuses = Unit {0}
   InFields P ignores = Unit {0}
   InFields P (forgets k) = Unit {0}
 
   -- a table never grows past its room
-  pub room-op : (t : List (Entry F)) (o : Op) → length t ≤ F .room → length (afterOp t o) ≤ F .room
+  pub room-op : (t : List (Entry F)) (o : Op F) → length t ≤ F .room → length (afterOp F t o) ≤ F .room
   unfolding afterOp
   room-op t (takes fs) h = room-steps F t fs h
   room-op t refuses h = rw (length-drop-open F t) h
   room-op t ignores h = h
   room-op t (forgets k) h = omega (arith, length-forget F k t)
 
-  pub room-run : (t : List (Entry F)) (os : List Op) → length t ≤ F .room → length (run t os) ≤ F .room
+  pub room-run : (t : List (Entry F)) (os : List (Op F)) → length t ≤ F .room → length (run t os) ≤ F .room
   unfolding run
   room-run t [] h = h
-  room-run t (o ∷ os) h = room-run (afterOp t o) os (room-op t o h)
+  room-run t (o ∷ os) h = room-run (afterOp F t o) os (room-op t o h)
 
 module _ (F : Family) (L : Lawful F) where
-  open Family F using (Key, sameKey, keyBefore, room)
+  open Family F using (Key)
 
   -- keys ascend
   pub ascends-op : (t : List (Entry F)) (o : Op F) → Ascends F (heldKeys F t) → Ascends F (heldKeys F (afterOp F t o))
@@ -114,6 +103,7 @@ module _ (F : Family) where
   StartIn us k (start l) = among F k us ≡ true
   StartIn us k (continuation l) = Unit {0}
   StartIn us k noList = Unit {0}
+  StartIn us k drops = Unit {0}
 
   -- an entry has one of these keys
   abbrev pub KeyIn : List (F .Key) → Entry F → Type 0
@@ -125,6 +115,7 @@ module _ (F : Family) where
   start-in us k (start l) ks h = h
   start-in us k (continuation l) ks h = (tt, h)
   start-in us k noList ks h = (tt, h)
+  start-in us k drops ks h = (tt, h)
 
   pub starts-in : (us : List (F .Key)) (fs : List (Said F)) → Every (λ k. among F k us ≡ true) (startedKeys F fs)
       → Every (λ f. StartIn us (f .key) (f .act)) fs
@@ -142,7 +133,7 @@ module _ (F : Family) where
       (omega arith) (omega (arith, length-forget-least k es))
 
 module _ (F : Family) (L : Lawful F) where
-  open Family F using (Key, sameKey, keyBefore, room)
+  open Family F using (Key, sameKey, room)
 
   -- each of these keys is one of them
   pub among-self : (us : List Key) → Every (λ k. among F k us ≡ true) us
@@ -207,32 +198,21 @@ module _ (F : Family) where
   onKeyRun k o [] = o
   onKeyRun k o (p ∷ ps) = onKeyRun k (onKeyOp k o p) ps
 
-  -- all the keys that a run starts
-  unfoldable pub startedOp : Op F → List Key
-  startedOp (takes fs) = startedKeys F fs
-  startedOp refuses = []
-  startedOp ignores = []
-  startedOp (forgets k) = []
-
-  unfoldable pub startedRun : List (Op F) → List Key
-  startedRun [] = []
-  startedRun (o ∷ os) = startedOp o ++ startedRun os
-
-  pub starts-in-op : (us : List Key) (o : Op F) → Every (λ k. among F k us ≡ true) (startedOp o)
+  pub starts-in-op : (us : List Key) (o : Op F) → Every (λ k. among F k us ≡ true) (startedKeys F (saidIn F o))
       → InFields F (λ f. StartIn F us (f .key) (f .act)) o
-  unfolding startedOp
+  unfolding saidIn
   starts-in-op us (takes fs) h = starts-in F us fs h
   starts-in-op us refuses h = tt
   starts-in-op us ignores h = tt
   starts-in-op us (forgets k) h = tt
 
-  pub starts-in-run : (us : List Key) (os : List (Op F)) → Every (λ k. among F k us ≡ true) (startedRun os)
+  pub starts-in-run : (us : List Key) (os : List (Op F)) → Every (λ k. among F k us ≡ true) (startedRun F os)
       → Every (InFields F (λ f. StartIn F us (f .key) (f .act))) os
   unfolding startedRun
   starts-in-run us [] h = tt
   starts-in-run us (o ∷ os) h = (
-    starts-in-op us o (every-left (λ k. among F k us ≡ true) (startedOp o) (startedRun os) h),
-    starts-in-run us os (every-right (λ k. among F k us ≡ true) (startedOp o) (startedRun os) h),
+    starts-in-op us o (every-left (λ k. among F k us ≡ true) (startedKeys F (saidIn F o)) (startedRun F os) h),
+    starts-in-run us os (every-right (λ k. among F k us ≡ true) (startedKeys F (saidIn F o)) (startedRun F os) h),
   )
 
   -- only a start of a key that is not held needs room
@@ -242,6 +222,7 @@ module _ (F : Family) where
   unheld-fits us r k s (start l) i h = rw (h i)
   unheld-fits us r k s (continuation l) i h = refl
   unheld-fits us r k s noList i h = refl
+  unheld-fits us r k s drops i h = refl
 
   pub unheld-in : (us : List Key) (r : Bool) (k : Key) (s : State) (a : Act F) → StartIn F us k a → Within (KeyIn F us) (onUnheld F r k s a .0)
   unfolding onUnheld fresh
@@ -249,12 +230,13 @@ module _ (F : Family) where
   unheld-in us false k s (start l) i = tt
   unheld-in us r k s (continuation l) i = tt
   unheld-in us r k s noList i = tt
+  unheld-in us r k s drops i = tt
 
   -- the held keys stay among these
   pub keeps-in : (us : List Key) (f : Said F) → StartIn F us (f .key) (f .act) → Keeps F (KeyIn F us) f
   unfolding effect kept
   keeps-in us f i r none w h = unheld-in us r (f .key) (f .state) (f .act) i
-  keeps-in us f i r (some e) w h = rw (onHeld-key F e (f .state) (f .act)) h
+  keeps-in us f i r (some e) w h = rw (onHeld-key F e (f .state) (f .stamp) (f .act)) h
 
   pub closed-in : (us : List Key) (e : Entry F) → KeyIn F us e → KeyIn F us (closed F e)
   unfolding closed entryWith
@@ -267,7 +249,7 @@ pub record Fits (F : Family) (us : List (F .Key)) (t : List (Entry F)) : Type 0 
   pub enough : length (once F us) ≤ F .room
 
 module _ (F : Family) (L : Lawful F) where
-  open Family F using (Key, sameKey, keyBefore, room)
+  open Family F using (Key, sameKey, room)
 
   pub fits-step : (us : List Key) (t : List (Entry F)) (f : Said F) → Fits F us t → StartIn F us (f .key) (f .act) → Fits F us (step F t f .0)
   fits-step us t f h i =
@@ -310,7 +292,7 @@ module _ (F : Family) (L : Lawful F) where
   effect-fits us t f h i =
       cases-option (find F (f .key) t)
       (λ n. rw n (unheld-fits F us (ltb (length t) room) (f .key) (f .state) (f .act) i
-      (λ m. room-left F L us t (record { key = f .key; state = f .state; shown = none; draft = none }) (h .ascend) (h .held) (h .enough) m n)))
+      (λ m. room-left F L us t (record { key = f .key; state = f .state; shown = none; draft = none; stamp = F .unstamped }) (h .ascend) (h .held) (h .enough) m n)))
       (λ e s. rw s)
 
   pub find-step-fits : (us : List Key) (k : Key) (t : List (Entry F)) (f : Said F) → Fits F us t → StartIn F us (f .key) (f .act)
@@ -346,13 +328,25 @@ module _ (F : Family) (L : Lawful F) where
       find-run-fits us k (afterOp F t o) os (fits-op us t o h (i .0)) (i .1)
       ∙ ap (λ (x : Option (Entry F)). onKeyRun F k x os) (find-op-fits us k t o h (i .0))
 
+  -- the keys held in a table or started in a run, where the distinct ones find room
+  pub fits-all : (t : List (Entry F)) (os : List (Op F)) → Ascends F (heldKeys F t) → keysRun F t os ≤ room
+      → Fits F (heldKeys F t ++ startedRun F os) t
+  unfolding keysRun
+  fits-all t os a n =
+      let us = heldKeys F t ++ startedRun F os in
+      record {
+        ascend = a;
+        held = every-keys F (λ l. among F l us ≡ true) t (every-left _ (heldKeys F t) (startedRun F os) (among-self F L us));
+        enough = n;
+      }
+
+  pub starts-all : (t : List (Entry F)) (os : List (Op F)) → Every (λ k. among F k (heldKeys F t ++ startedRun F os) ≡ true) (startedRun F os)
+  starts-all t os = every-right _ (heldKeys F t) (startedRun F os) (among-self F L (heldKeys F t ++ startedRun F os))
+
   -- what is held of a key after a run is worked out from its own fields alone, where the distinct keys held or started are no
   -- more than the table has room for
-  pub find-run : (k : Key) (t : List (Entry F)) (os : List (Op F)) → Ascends F (heldKeys F t)
-      → length (once F (heldKeys F t ++ startedRun F os)) ≤ room → find F k (run F t os) ≡ onKeyRun F k (find F k t) os
+  pub find-run : (k : Key) (t : List (Entry F)) (os : List (Op F)) → Ascends F (heldKeys F t) → keysRun F t os ≤ room
+      → find F k (run F t os) ≡ onKeyRun F k (find F k t) os
   find-run k t os a n =
       let us = heldKeys F t ++ startedRun F os in
-      let all = among-self F L us in
-      find-run-fits us k t os
-      (record { ascend = a; held = every-keys F (λ l. among F l us ≡ true) t (every-left _ (heldKeys F t) (startedRun F os) all); enough = n })
-      (starts-in-run F us os (every-right _ (heldKeys F t) (startedRun F os) all))
+      find-run-fits us k t os (fits-all t os a n) (starts-in-run F us os (starts-all t os))

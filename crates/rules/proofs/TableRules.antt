@@ -8,16 +8,15 @@ use mathlib.Core.Path.{_≡_, refl}
 use mathlib.Core.Logic.{_↔_}
 use mathlib.Core.Bool.{Bool, true, false, not, _&&_, _||_}
 use mathlib.Core.List.{List, [], _∷_, _++_}
-use mathlib.Core.Option.{Option, none, some}
 use lib.ListN.{length}
 use lib.Dec.{leb, ltb, eqb}
 use borrow.Author.Tests.{ltb-true, ltb-false, leb-true, eqb-true, eqb-false, lt-ltb, le-leb, eq-eqb, ne-eqb}
 use Rattle.rules.specs.Field.{Pair, width, dab, rds, drm}
-use Rattle.rules.specs.Family.{member, addedAll}
-use Rattle.rules.specs.Collecting.{samePair, joinNames, linkage, IdSet, Held, Content, keyWidth, allDiffer, firstIsDab, kindNamed, pairsMeet, namesMeet, setMeets, ifThere, entryMeets, ascends, entriesMeet, meets, showing, shownSets}
-use Rattle.rules.specs.Demand3.{heldKeys}
-use Rattle.rules.proofs.Basics.{cases-bool, cases-option, and-left, and-right, and-both, and-three, and-four, and-five, or-cases, not-true, true-not, cond-both, eqb-self, ltb-self, ltb-trans, ltb-or, Every, every-imp, Within}
-use Rattle.rules.proofs.FamilyLaws.{Lawful, After, Ascends, Different, keys-every, Lists, after-through, different-first, different-left, addedAll-new}
+use Rattle.rules.specs.Family.{member, heldMeets}
+use Rattle.rules.specs.Collecting.{samePair, joinNames, linkage, IdSet, Held, Entries, linkageRules, keyWidth, allDiffer, notEmpty, mayBegin, beginsRight, kindNamed, pairsMeet, namesMeet, setMeets, ifThere, entryMeets, ascends, entriesMeet, setsMeet, showing, shownSets}
+use Rattle.rules.proofs.Basics.{cases-bool, cases-option, and-left, and-right, and-both, and-three, and-four, and-six, or-cases, true-false, not-true, true-not, cond-both, eqb-self, ltb-self, ltb-trans, ltb-or, Every}
+use Rattle.rules.proofs.FamilyLaws.{Lawful, Different}
+use Rattle.rules.proofs.FamilyRules.{items-differ, items-before, Means, HeldMeets, TableMeets, table-means}
 
 -- ---- the tests of linkage
 
@@ -121,25 +120,12 @@ join-to-zero a = names-eq (joinNames a 0) a (simp join-mod (omega arith)) (simp 
 
 pub all-differ : (ps : List Pair) → (allDiffer ps ≡ true) ↔ Different linkage ps
 unfolding allDiffer
-all-differ [] = (λ h. tt, λ h. refl)
-all-differ (p ∷ ps) = (
-  λ h. (
-    not-true (member linkage p ps) (and-left (not (member linkage p ps)) (allDiffer ps) h),
-    all-differ ps .0 (and-right (not (member linkage p ps)) (allDiffer ps) h),
-  ),
-  λ h. and-both (not (member linkage p ps)) (allDiffer ps) (true-not (member linkage p ps) (h .0)) (all-differ ps .1 (h .1)),
-)
+all-differ ps = items-differ linkage ps
 
 -- a pair in the middle is not among those before it
 pub differ-before : (xs : List Pair) (p : Pair) (ps : List Pair) → allDiffer (xs ++ p ∷ ps) ≡ true → member linkage p xs ≡ false
-differ-before xs p ps h = different-first linkage lawful xs p ps (all-differ (xs ++ p ∷ ps) .0 h)
-
-pub differ-left : (xs ys : List Pair) → allDiffer (xs ++ ys) ≡ true → allDiffer xs ≡ true
-differ-left xs ys h = all-differ xs .1 (different-left linkage xs ys (all-differ (xs ++ ys) .0 h))
-
--- different pairs are added one after the other
-pub added-all : (xs ys : List Pair) → allDiffer (xs ++ ys) ≡ true → addedAll linkage xs ys ≡ xs ++ ys
-added-all xs ys h = addedAll-new linkage lawful xs ys (all-differ (xs ++ ys) .0 h)
+unfolding allDiffer
+differ-before xs p ps h = items-before linkage lawful xs p ps h
 
 -- ---- the rule of a pair
 
@@ -168,11 +154,34 @@ pairs-meet w named (p ∷ ps) =
       λ h. a .1 (record { number = h .0 .0; kind = h .0 .1; rest = pairs-meet w named ps .1 (h .1) }),
     )
 
+-- ---- what a set begins with
+
+-- it begins with something
+pub some-there : (ps : List Pair) → notEmpty ps ≡ true → 1 ≤ length ps
+unfolding notEmpty
+some-there [] h = true-false h refl
+some-there (p ∷ ps) h = omega arith
+
+pub not-empty : (ps : List Pair) → 1 ≤ length ps → notEmpty ps ≡ true
+unfolding notEmpty
+not-empty [] h = absurd (omega arith)
+not-empty (p ∷ ps) h = refl
+
+-- with a DAB service
+pub begins-dab : (k kind : ℕ) → mayBegin k kind ≡ true → kind ≡ dab
+unfolding mayBegin
+begins-dab k kind h = eqb-true kind dab h
+
+pub dab-begins : (k : ℕ) → mayBegin k dab ≡ true
+unfolding mayBegin
+dab-begins k = refl
+
 -- ---- the rule of a set
 
 pub record SetRules (k : ℕ) (l : IdSet) : Type 0 where
   pub short : length (l .items) ≤ 128
-  pub first : firstIsDab (l .items) ≡ true
+  pub some : notEmpty (l .items) ≡ true
+  pub first : beginsRight k (l .items) ≡ true
   pub differ : allDiffer (l .items) ≡ true
   pub pairs : pairsMeet (keyWidth k) (l .named) (l .items) ≡ true
   pub names : namesMeet k (l .named) ≡ true
@@ -180,16 +189,17 @@ pub record SetRules (k : ℕ) (l : IdSet) : Type 0 where
 pub set-rules : (k : ℕ) (l : IdSet) → (setMeets k l ≡ true) ↔ SetRules k l
 unfolding setMeets
 set-rules k l =
-    let a = and-five (leb (length (l .items)) 128) (firstIsDab (l .items)) (allDiffer (l .items))
+    let a = and-six (leb (length (l .items)) 128) (notEmpty (l .items)) (beginsRight k (l .items)) (allDiffer (l .items))
     (pairsMeet (keyWidth k) (l .named) (l .items)) (namesMeet k (l .named)) in (
-      λ h. let t = a .0 h in record { short = leb-true (length (l .items)) 128 (t .0); first = t .1; differ = t .2; pairs = t .3; names = t .4 },
-      λ r. a .1 (le-leb (length (l .items)) 128 (r .short), r .first, r .differ, r .pairs, r .names),
+      λ h. let t = a .0 h in record { short = leb-true (length (l .items)) 128 (t .0); some = t .1; first = t .2; differ = t .3; pairs = t .4; names = t .5 },
+      λ r. a .1 (le-leb (length (l .items)) 128 (r .short), r .some, r .first, r .differ, r .pairs, r .names),
     )
 
 -- what it means
 pub record SetMeets (k : ℕ) (l : IdSet) : Type 0 where
   pub short : length (l .items) ≤ 128
-  pub first : firstIsDab (l .items) ≡ true
+  pub some : notEmpty (l .items) ≡ true
+  pub first : beginsRight k (l .items) ≡ true
   pub differ : Different linkage (l .items)
   pub pairs : Every (PairMeets (keyWidth k) (l .named)) (l .items)
   pub names : namesMeet k (l .named) ≡ true
@@ -199,6 +209,7 @@ set-meets k l = (
   λ h. let r = set-rules k l .0 h in
       record {
         short = r .short;
+        some = r .some;
         first = r .first;
         differ = all-differ (l .items) .0 (r .differ);
         pairs = pairs-meet (keyWidth k) (l .named) (l .items) .0 (r .pairs);
@@ -207,17 +218,13 @@ set-meets k l = (
   λ m. set-rules k l .1
       (record {
         short = m .short;
+        some = m .some;
         first = m .first;
         differ = all-differ (l .items) .1 (m .differ);
         pairs = pairs-meet (keyWidth k) (l .named) (l .items) .1 (m .pairs);
         names = m .names;
       }),
 )
-
-pub if-there : (k : ℕ) (o : Option IdSet) → (ifThere k o ≡ true) ↔ Within (SetMeets k) o
-unfolding ifThere
-if-there k none = (λ h. tt, λ h. refl)
-if-there k (some l) = set-meets k l
 
 -- ---- the rule of an entry
 
@@ -228,7 +235,7 @@ pub record EntryRules (e : Held) : Type 0 where
   pub draft : ifThere (e .key) (e .draft) ≡ true
 
 pub entry-rules : (e : Held) → (entryMeets e ≡ true) ↔ EntryRules e
-unfolding entryMeets
+unfolding heldMeets ifThere
 entry-rules e =
     let a = and-four (ltb (e .key) 65536) (not (eqb (e .key % 4096) 0)) (ifThere (e .key) (e .shown)) (ifThere (e .key) (e .draft)) in (
       λ h. let t = a .0 h in
@@ -245,92 +252,66 @@ entry-rules e =
 abbrev pub KeyMeets : ℕ → Type 0
 KeyMeets k = (k < 65536) × (k % 4096 ≡ 0 → ⊥)
 
--- an entry: its key and its lists
+pub key-meets : (k : ℕ) → (linkageRules .keyMeets k ≡ true) ↔ KeyMeets k
+key-meets k =
+    let a = ltb k 65536 in
+    let b = eqb (k % 4096) 0 in (
+      λ h. (ltb-true k 65536 (and-left a (not b) h), eqb-false (k % 4096) 0 (not-true b (and-right a (not b) h))),
+      λ m. and-both a (not b) (lt-ltb k 65536 (m .0)) (true-not b (ne-eqb (k % 4096) 0 (m .1))),
+    )
+
+pub key-some : (k : ℕ) → KeyMeets k → 0 < k
+key-some k h = cases-bool (ltb 0 k) (ltb-true 0 k) (λ z. absurd (h .1 (omega (arith, ltb-false 0 k z))))
+
+-- what the tests of linkage mean
+abbrev pub meaning : Means linkage linkageRules
+meaning =
+    record {
+      KeyIs = KeyMeets;
+      ListIs = SetMeets;
+      StampIs = λ shown stamp. Unit {0};
+      key-is = key-meets;
+      list-is = set-meets;
+      stamp-is = λ shown stamp. (λ h. tt, λ h. refl);
+      unstamped-is = tt;
+      may-begin = λ k h. lt-ltb 0 k (key-some k h);
+    }
+
+-- an entry: its key, its lists, and nothing of its stamp
 abbrev pub EntryMeets : Held → Type 0
-EntryMeets e = KeyMeets (e .key) × Lists linkage SetMeets e
-
-pub entry-meets : (e : Held) → (entryMeets e ≡ true) ↔ EntryMeets e
-entry-meets e = (
-  λ h. let r = entry-rules e .0 h in (
-    (r .below, eqb-false (e .key % 4096) 0 (r .numbered)),
-    (if-there (e .key) (e .shown) .0 (r .shown), if-there (e .key) (e .draft) .0 (r .draft)),
-  ),
-  λ m. entry-rules e .1
-      (record {
-        below = m .0 .0;
-        numbered = ne-eqb (e .key % 4096) 0 (m .0 .1);
-        shown = if-there (e .key) (e .shown) .1 (m .1 .0);
-        draft = if-there (e .key) (e .draft) .1 (m .1 .1);
-      }),
-)
-
-pub entries-meet : (t : Content) → (entriesMeet t ≡ true) ↔ Every EntryMeets t
-unfolding entriesMeet
-entries-meet [] = (λ h. tt, λ h. refl)
-entries-meet (e ∷ es) = (
-  λ h. (entry-meets e .0 (and-left (entryMeets e) (entriesMeet es) h), entries-meet es .0 (and-right (entryMeets e) (entriesMeet es) h)),
-  λ m. and-both (entryMeets e) (entriesMeet es) (entry-meets e .1 (m .0)) (entries-meet es .1 (m .1)),
-)
+EntryMeets e = HeldMeets linkage linkageRules meaning e
 
 -- ---- the rule of a table
 
-pub record TableRules (t : Content) : Type 0 where
+pub record TableRules (t : Entries) : Type 0 where
   pub short : length t ≤ 32
   pub ascend : ascends 0 t ≡ true
   pub entries : entriesMeet t ≡ true
 
-pub table-rules : (t : Content) → (meets t ≡ true) ↔ TableRules t
-unfolding meets
+pub table-rules : (t : Entries) → (setsMeet t ≡ true) ↔ TableRules t
+unfolding setsMeet ascends entriesMeet
 table-rules t =
     let a = and-three (leb (length t) 32) (ascends 0 t) (entriesMeet t) in (
       λ h. let r = a .0 h in record { short = leb-true (length t) 32 (r .0); ascend = r .1; entries = r .2 },
       λ r. a .1 (le-leb (length t) 32 (r .short), r .ascend, r .entries),
     )
 
-pub ascends-keys : (k : ℕ) (t : Content) → (ascends k t ≡ true) ↔ (After linkage k (heldKeys linkage t) × Ascends linkage (heldKeys linkage t))
-unfolding ascends heldKeys
-ascends-keys k [] = (λ h. (tt, tt), λ h. refl)
-ascends-keys k (e ∷ es) = (
-  λ h.
-      let b = and-left (ltb k (e .key)) (ascends (e .key) es) h in
-      let r = ascends-keys (e .key) es .0 (and-right (ltb k (e .key)) (ascends (e .key) es) h) in
-      ((b, after-through linkage lawful k (e .key) (heldKeys linkage es) b (r .0)), r),
-  λ m. and-both (ltb k (e .key)) (ascends (e .key) es) (m .0 .0) (ascends-keys (e .key) es .1 (m .1)),
-)
-
-pub key-some : (k : ℕ) → KeyMeets k → 0 < k
-key-some k h = cases-bool (ltb 0 k) (ltb-true 0 k) (λ z. absurd (h .1 (omega (arith, ltb-false 0 k z))))
-
 -- what it means
-pub record Meets (t : Content) : Type 0 where
-  pub few : length t ≤ 32
-  pub ascend : Ascends linkage (heldKeys linkage t)
-  pub entries : Every EntryMeets t
+abbrev pub Meets : Entries → Type 0
+Meets t = TableMeets linkage linkageRules meaning t
 
-pub table-meets : (t : Content) → (meets t ≡ true) ↔ Meets t
-table-meets t = (
-  λ h. let r = table-rules t .0 h in
-      record { few = r .short; ascend = ascends-keys 0 t .0 (r .ascend) .1; entries = entries-meet t .0 (r .entries) },
-  λ m. table-rules t .1
-      (record {
-        short = m .few;
-        ascend = ascends-keys 0 t .1 (
-          keys-every linkage (λ k. ltb 0 k ≡ true) t
-              (every-imp EntryMeets (λ e. ltb 0 (e .key) ≡ true) (λ e h. lt-ltb 0 (e .key) (key-some (e .key) (h .0))) t (m .entries)),
-          m .ascend,
-        );
-        entries = entries-meet t .1 (m .entries);
-      }),
-)
+pub table-meets : (t : Entries) → (setsMeet t ≡ true) ↔ Meets t
+unfolding setsMeet
+table-meets t = table-means linkage lawful linkageRules meaning t
 
-pub meets-nil : meets [] ≡ true
-unfolding meets ascends entriesMeet
+pub meets-nil : setsMeet [] ≡ true
+unfolding setsMeet ascends entriesMeet
 meets-nil = refl
 
 -- ---- what a table shows
 
 -- no more sets than keys
-pub shown-few : (t : Content) → length (shownSets t) ≤ length t
+pub shown-few : (t : Entries) → length (shownSets t) ≤ length t
 unfolding shownSets showing
 shown-few [] = omega arith
 shown-few (e ∷ es) =

@@ -77,14 +77,6 @@ module _ {A : Type 0} where
       (λ e. subst (Goes at p) (whole-is [] xs (sym (walk-end at n p e) ∙ h)) e)
       (λ e. broken-whole p xs (sym (walk-wrong at n p e) ∙ h))
 
-  -- and back, in more steps than there are items
-  pub goes-walk : (at : ℕ → Step A) (n p : ℕ) (xs : List A) → length xs < n → Goes at p xs → walk at n p ≡ whole xs
-  unfolding after
-  goes-walk at zero p xs l g = absurd (omega arith)
-  goes-walk at (suc n) p [] l g = walk-end at n p g
-  goes-walk at (suc n) p (a ∷ xs) l g =
-      walk-item at n p a (g .0) (g .1) ∙ ap (after a) (goes-walk at n (g .0) xs (omega arith) (g .2))
-
   -- what every item that stands somewhere has
   pub goes-every : (P : A → Type 0) (at : ℕ → Step A) → ((p : ℕ) (a : A) (q : ℕ) → at p ≡ item a q → P a) → (p : ℕ) (xs : List A)
       → Goes at p xs → Every P xs
@@ -368,12 +360,6 @@ taken-block fib fs =
     }))
     (λ c e. refused-taken _ fs e))
     (λ l e. noBlock-taken fs e)
-
--- and back
-pub block-taken : (fib : List ℕ) (fs : List Field) → TakenBlock fib fs → verdict fib ≡ taken fs
-unfolding verdict judgeFigs judgeFields
-block-taken fib fs b =
-    rw (eq-eqb (length fib) 32 (b .size)) (rw (b .check) (rw (b .walked) (rw (b .filled) (rw (b .values) (rw (b .starts))))))
 
 pub figs-goes : (fib : List ℕ) (gs : List Fig) → figs fib ≡ whole gs → Goes (figAt fib) 0 gs
 unfolding figs

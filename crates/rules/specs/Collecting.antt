@@ -6,7 +6,7 @@ use mathlib.Core.Option.{Option, none, some}
 use lib.ListN.{length}
 use lib.Dec.{leb, ltb, eqb}
 use Rattle.rules.specs.Field.{Field, keyOf, Pair, pairsOf, namedBy, hasList, isContinuation, width, dab, rds, drm}
-use Rattle.rules.specs.Family.{Family, Listed, Act, start, continuation, noList, Said, Entry, member}
+use Rattle.rules.specs.Family.{Family, Listed, Act, start, continuation, noList, Said, Entry, itemsDiffer, Rules, maybeMeets, heldMeets, goesUp, allMeet, tableMeets}
 
 -- ---- the family of linkage sets
 
@@ -30,19 +30,35 @@ linkage =
       Names = ℕ;
       join = joinNames;
       State = Bool;
+      Stamp = Unit {0};
+      unstamped = tt;
       room = 32;
       most = 128;
     }
 
--- a shown set or an open list; what is held of a key; a table's content, in ascending key order
+-- a shown set or an open list; what is held of a key; of all keys, in ascending order
 abbrev pub IdSet : Type 0
 IdSet = Listed linkage
 
 abbrev pub Held : Type 0
 Held = Entry linkage
 
-abbrev pub Content : Type 0
-Content = List Held
+abbrev pub Entries : Type 0
+Entries = List Held
+
+-- what a table holds: its sets
+pub record Content : Type 0 where
+  pub sets : Entries
+
+-- a table that holds nothing; one that holds these sets alone; a table with other sets
+abbrev pub nothing : Content
+nothing = record { sets = [] }
+
+abbrev pub justSets : Entries → Content
+justSets s = record { sets = s }
+
+abbrev pub withSets : Content → Entries → Content
+withSets t s = record { sets = s }
 
 -- what a field brings
 unfoldable pub brings : Field → IdSet
@@ -53,7 +69,7 @@ unfoldable pub actOf : Field → Act linkage
 actOf f = cond (hasList f) (cond (isContinuation f) (continuation (brings f)) (start (brings f))) noList
 
 unfoldable pub said : Field → Said linkage
-said f = record { key = keyOf f; state = eqb (f .la) 1; act = actOf f }
+said f = record { key = keyOf f; state = eqb (f .la) 1; act = actOf f; stamp = tt }
 
 -- ---- the table rules
 
@@ -63,13 +79,21 @@ keyWidth k = width (k / 16384 % 2) (k / 4096 % 2)
 
 -- no pair stands twice
 unfoldable pub allDiffer : List Pair → Bool
-allDiffer [] = true
-allDiffer (p ∷ ps) = not (member linkage p ps) && allDiffer ps
+allDiffer ps = itemsDiffer linkage ps
 
--- the first is a DAB service
-unfoldable pub firstIsDab : List Pair → Bool
-firstIsDab [] = false
-firstIsDab (p ∷ ps) = eqb (p .kind) dab
+-- there is a pair
+unfoldable pub notEmpty : List Pair → Bool
+notEmpty [] = false
+notEmpty (p ∷ ps) = true
+
+-- the kinds that a set of a key may begin with: a DAB service, whatever the key
+unfoldable pub mayBegin : ℕ → ℕ → Bool
+mayBegin k kind = eqb kind dab
+
+-- the first, if there is one, is of such a kind
+unfoldable pub beginsRight : ℕ → List Pair → Bool
+beginsRight k [] = true
+beginsRight k (p ∷ ps) = mayBegin k (p .kind)
 
 -- a kind that there is, and that is named if it is RDS or DRM
 unfoldable pub kindNamed : ℕ → ℕ → Bool
@@ -84,33 +108,42 @@ pairsMeet w named (p ∷ ps) = ltb (p .number) (256 ^ w) && kindNamed named (p .
 unfoldable pub namesMeet : ℕ → ℕ → Bool
 namesMeet k named = cond (eqb (k / 16384 % 2) 1) (eqb named 0) (ltb named 4)
 
--- a shown set or an open list: 1 to 128 different pairs, the first a DAB service, ..
+-- a shown set or an open list: 1 to 128 different pairs, the first of a kind that may begin it, ..
 unfoldable pub setMeets : ℕ → IdSet → Bool
 setMeets k l =
-    leb (length (l .items)) 128 && firstIsDab (l .items) && allDiffer (l .items)
+    leb (length (l .items)) 128 && notEmpty (l .items) && beginsRight k (l .items) && allDiffer (l .items)
     && pairsMeet (keyWidth k) (l .named) (l .items) && namesMeet k (l .named)
 
+-- the rules of linkage: a key below 65,536 with LSN not 0, its sets, and the first key above 0
+abbrev pub linkageRules : Rules linkage
+linkageRules =
+    record {
+      keyMeets = λ k. ltb k 65536 && not (eqb (k % 4096) 0);
+      listMeets = setMeets;
+      stampMeets = λ shown stamp. true;
+      begins = ltb 0;
+    }
+
+-- by these rules: a set that may be there, a held key, keys in ascending order above one, all held keys
 unfoldable pub ifThere : ℕ → Option IdSet → Bool
-ifThere k none = true
-ifThere k (some l) = setMeets k l
+ifThere k o = maybeMeets linkage linkageRules k o
 
--- a key below 65,536 with LSN not 0, and its sets
-unfoldable pub entryMeets : Held → Bool
-entryMeets e =
-    ltb (e .key) 65536 && not (eqb (e .key % 4096) 0) && ifThere (e .key) (e .shown) && ifThere (e .key) (e .draft)
+abbrev pub entryMeets : Held → Bool
+entryMeets e = heldMeets linkage linkageRules e
 
--- keys differ, and ascend: the one order in which a content is stored
-unfoldable pub ascends : ℕ → Content → Bool
-ascends last [] = true
-ascends last (e ∷ es) = ltb last (e .key) && ascends (e .key) es
+unfoldable pub ascends : ℕ → Entries → Bool
+ascends last t = goesUp linkage (ltb last) t
 
-unfoldable pub entriesMeet : Content → Bool
-entriesMeet [] = true
-entriesMeet (e ∷ es) = entryMeets e && entriesMeet es
+unfoldable pub entriesMeet : Entries → Bool
+entriesMeet t = allMeet linkage linkageRules t
 
--- the table rules; 32 keys at most
-unfoldable pub meets : Content → Bool
-meets t = leb (length t) 32 && ascends 0 t && entriesMeet t
+-- the rules of the sets; 32 keys at most
+unfoldable pub setsMeet : Entries → Bool
+setsMeet t = tableMeets linkage linkageRules t
+
+-- the table rules
+abbrev pub meets : Content → Bool
+meets t = setsMeet (t .sets)
 
 -- ---- what a table shows
 
@@ -125,6 +158,6 @@ showing e none rest = rest
 showing e (some l) rest = record { key = e .key; on = e .state; set = l } ∷ rest
 
 -- the shown sets, in ascending key order
-unfoldable pub shownSets : Content → List Shown
+unfoldable pub shownSets : Entries → List Shown
 shownSets [] = []
 shownSets (e ∷ es) = showing e (e .shown) (shownSets es)

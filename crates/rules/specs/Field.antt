@@ -126,6 +126,13 @@ pub record Pair : Type 0 where
 unfoldable pub pair : ℕ → ℕ → Pair
 pair k n = record { kind = k; number = n }
 
+-- its number and its kind by themselves
+unfoldable pub numberIn : Pair → ℕ
+numberIn p = p .number
+
+unfoldable pub kindIn : Pair → ℕ
+kindIn p = p .kind
+
 -- a field with a list is a start if C/N is 0 and a continuation if it is 1
 unfoldable pub hasList : Field → Bool
 hasList f = eqb (f .flag) 1
@@ -133,9 +140,9 @@ hasList f = eqb (f .flag) 1
 unfoldable pub isContinuation : Field → Bool
 isContinuation f = eqb (f .cn) 1
 
--- the kind of a start's first identifier: a DAB service, whatever the qualifier
-unfoldable pub firstKind : Field → ℕ
-firstKind f = dab
+-- the kind of a start's first identifier, by the start's OE and qualifier: a DAB service, whatever they are
+unfoldable pub firstKind : ℕ → ℕ → ℕ
+firstKind oe qualifier = dab
 
 -- a start's identifiers: the first of its own kind, the others of the qualifier's
 unfoldable pub startPairs : ℕ → ℕ → List ℕ → List Pair
@@ -144,7 +151,7 @@ startPairs first kind (n ∷ ns) = pair first n ∷ map (pair kind) ns
 
 -- the identifiers of a field
 unfoldable pub pairsOf : Field → List Pair
-pairsOf f = cond (isContinuation f) (map (pair (f .qualifier)) (f .numbers)) (startPairs (firstKind f) (f .qualifier) (f .numbers))
+pairsOf f = cond (isContinuation f) (map (pair (f .qualifier)) (f .numbers)) (startPairs (firstKind (f .oe) (f .qualifier)) (f .qualifier) (f .numbers))
 
 -- the kinds that a list with this qualifier names, as one number, 1 RDS plus 2 DRM or AMSS: its own, even when no identifier comes
 unfoldable pub namedBy : ℕ → ℕ

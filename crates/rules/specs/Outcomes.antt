@@ -1,6 +1,6 @@
 -- Numbered outcomes (document 01): each one's number, the order of testing, and what is left.
 -- That a given table meets the rules in its one stored form is tested first of all, where the table is stored (crate table).
-use Prim.Native.Nat.{ℕ, zero, suc, _+_, _/_, _%_}
+use Prim.Native.Nat.{ℕ, zero, suc, _/_, _%_}
 use mathlib.Core.Bool.{Bool, false, cond, _||_}
 use mathlib.Core.List.{List, [], _∷_, _++_, map}
 use mathlib.Core.Option.{Option, none, some}
@@ -9,11 +9,11 @@ use lib.Dec.{ltb, eqb}
 use Rattle.rules.specs.declared.Outcome.{Outcome}
 use Rattle.rules.specs.declared.Outcome.the-variants.{Done, NotABlock, CheckFails, WrongFig, WrongField, WrongValue, EmptyStart, NotHeld, ShortBuffer, WrongTable, NotASheet, NotShown, TooMuch, TooManyPieces, BadCode}
 use Rattle.rules.specs.declared.Note.{Note}
-use Rattle.rules.specs.declared.Note.the-variants.{Opened, ShownAndOpened, Added, NoOpenList, Full, TooLong, StateOnly, UnknownKey}
+use Rattle.rules.specs.declared.Note.the-variants.{Opened, ShownAndOpened, Added, NoOpenList, Full, TooLong, StateOnly, UnknownKey, Dropped}
 use Rattle.rules.specs.Block.{Walk, whole, broken, Fig, figs, checkHolds}
-use Rattle.rules.specs.Field.{Field, isLinking, fieldsOf, wrongValue, emptyStart, Pair}
-use Rattle.rules.specs.Family.{steps, dropOpen, find}
-use Rattle.rules.specs.Collecting.{linkage, IdSet, Held, Content, said}
+use Rattle.rules.specs.Field.{Field, isLinking, fieldsOf, wrongValue, emptyStart, numberIn, kindIn}
+use Rattle.rules.specs.Family.{steps, dropOpen, forget, find}
+use Rattle.rules.specs.Collecting.{linkage, IdSet, Held, Content, withSets, said}
 
 -- the number of an outcome in document 01
 unfoldable pub numberOf : Outcome → ℕ
@@ -33,7 +33,7 @@ numberOf TooMuch = 12
 numberOf TooManyPieces = 13
 numberOf BadCode = 14
 
--- the number of a note, in the order in which document 01 names them
+-- the number of a note, in the order in which document 01 names them; 9 is document 02's and waits for its request
 unfoldable pub noteNumber : Note → ℕ
 noteNumber Opened = 1
 noteNumber ShownAndOpened = 2
@@ -43,6 +43,7 @@ noteNumber Full = 5
 noteNumber TooLong = 6
 noteNumber StateOnly = 7
 noteNumber UnknownKey = 8
+noteNumber Dropped = 9
 
 -- ---- what is in a block: 1 to 6 in that order, each over the whole block before the next
 
@@ -95,9 +96,9 @@ pub record Answer : Type 0 where
 -- a refused block leaves everything but the open lists; what is no block leaves them too
 unfoldable pub answerTo : Content → Verdict → Answer
 answerTo t (taken fs) =
-    let r = steps linkage t (map said fs) in
-    record { outcome = Done; notes = r .1; left = r .0 }
-answerTo t (refused o) = record { outcome = o; notes = []; left = dropOpen linkage t }
+    let r = steps linkage (t .sets) (map said fs) in
+    record { outcome = Done; notes = r .1; left = withSets t (r .0) }
+answerTo t (refused o) = record { outcome = o; notes = []; left = withSets t (dropOpen linkage (t .sets)) }
 answerTo t noBlock = record { outcome = NotABlock; notes = []; left = t }
 
 unfoldable pub readBlock : Content → List ℕ → Answer
@@ -122,7 +123,11 @@ heldOr none o = NotHeld
 heldOr (some e) o = o
 
 unfoldable pub forgetOutcome : ℕ → Content → Outcome
-forgetOutcome k t = heldOr (find linkage k t) Done
+forgetOutcome k t = heldOr (find linkage k (t .sets)) Done
+
+-- a key forgotten
+unfoldable pub forgotten : ℕ → Content → Content
+forgotten k t = withSets t (forget linkage k (t .sets))
 
 -- a set copied out: its key, on or off, named kinds and how many identifiers, with both buffers as they are then
 pub record Copied : Type 0 where
@@ -136,12 +141,6 @@ pub record Copied : Type 0 where
 
 unfoldable pub notCopied : Outcome → List ℕ → List ℕ → Copied
 notCopied o ns ks = record { outcome = o; key = 0; on = false; named = 0; count = 0; numbers = ns; kinds = ks }
-
-unfoldable pub numberIn : Pair → ℕ
-numberIn p = p .number
-
-unfoldable pub kindIn : Pair → ℕ
-kindIn p = p .kind
 
 -- later places stay as they were
 unfoldable pub overwritten : List ℕ → List ℕ → List ℕ
@@ -167,4 +166,4 @@ copyHeld none ns ks = notCopied NotHeld ns ks
 copyHeld (some e) ns ks = copySet e (e .shown) ns ks
 
 unfoldable pub copyOut : ℕ → Content → List ℕ → List ℕ → Copied
-copyOut k t ns ks = copyHeld (find linkage k t) ns ks
+copyOut k t ns ks = copyHeld (find linkage k (t .sets)) ns ks

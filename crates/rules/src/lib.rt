@@ -1,8 +1,8 @@
 // The rules of document 01 as definitions, on plain data: see specs/, one module for each section of
 // the document and in its order, and proofs/ for the laws above them. The only code here are the two
 // enums that an answer is made of, so that the definitions and every program speak of the same ones.
-// Their numbers in document 01 are numberOf and noteNumber of specs/Outcomes.antt. The outcomes above 11 are document 02's and wait for
-// their requests.
+// Their numbers in document 01 are numberOf and noteNumber of specs/Outcomes.antt. The outcomes above 11 and the note above 8 are document
+// 02's and wait for their requests.
 
 // The numbered outcomes (document 01, Numbered outcomes), in their order.
 pub enum Outcome {
@@ -56,4 +56,6 @@ pub enum Note {
     StateOnly,
     // 8: unknown key
     UnknownKey,
+    // 9: the open list was dropped by a count of 0 (R-4)
+    Dropped,
 }

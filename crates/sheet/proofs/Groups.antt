@@ -6,9 +6,9 @@ use mathlib.Core.Path.{_≡_, refl, _∙_}
 use mathlib.Core.List.{List, [], _∷_}
 use lib.ListN.{length}
 use lib.Dec.{ltb}
-use Rattle.rules.specs.Sheet.{groups, sheetNumber}
+use Rattle.layout.specs.Sheet.{groups, sheetNumber}
 use Rattle.rules.proofs.Basics.{cases-bool}
-use Rattle.rules.proofs.SheetLaws.{power-less, groups-small, groups-large}
+use Rattle.layout.proofs.Laws.{power-less, groups-small, groups-large}
 
 -- enough groups are left for the number
 pub record Grouped (q : ℕ) (rest : List ℕ) : Type 0 where

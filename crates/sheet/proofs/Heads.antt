@@ -5,8 +5,8 @@ use mathlib.Core.List.{List}
 use mathlib.Core.Option.{none, some}
 use lib.Dec.{leb, eqb}
 use Rattle.rules.specs.Collecting.{namesMeet}
-use Rattle.rules.proofs.SheetParse.{readIf, keyFits, countFits, readHead}
-use Rattle.rules.proofs.SheetParseLaws.{then-go, then-none}
+use Rattle.layout.specs.Parse.{readIf, keyFits, countFits, readHead}
+use Rattle.layout.proofs.ParseLaws.{then-go, then-none}
 use Rattle.rules.proofs.TableRules.{names-small}
 use Rattle.sheet.specs.declared.ReadNumber.the-variants as number
 use Rattle.sheet.specs.declared.ReadHead.the-variants as head

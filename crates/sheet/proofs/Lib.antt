@@ -1,5 +1,5 @@
 -- The laws that the proofs of the functions lean on: writing (Groups, Writes), loading (Numbers, Tests, Heads,
--- Pairs, Sets, Loads), and that a table stores one content (Contents).
+-- Pairs, Sets, Loads).
 pub mod Groups
 pub mod Writes
 pub mod Numbers
@@ -8,4 +8,3 @@ pub mod Heads
 pub mod Pairs
 pub mod Sets
 pub mod Loads
-pub mod Contents

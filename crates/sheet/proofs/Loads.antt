@@ -8,12 +8,14 @@ use lib.ListN.{length}
 use lib.Dec.{leb}
 use borrow.Author.Tests.{leb-true, eq-eqb, ne-eqb}
 use Rattle.rules.specs.declared.Outcome.the-variants.{Done}
-use Rattle.rules.specs.Collecting.{Content}
+use Rattle.rules.specs.Collecting.{Entries, Content, nothing, justSets}
 use Rattle.rules.proofs.Basics.{true-false}
-use Rattle.rules.proofs.SheetBasics.{Bytes}
-use Rattle.rules.proofs.SheetParse.{Read, readIf, readSets, parseSheet}
-use Rattle.rules.proofs.SheetParseLaws.{then-go, then-none, parsedOutcome, parsedLeft, parse-loads}
-use Rattle.table.specs.Stored.{storeTable}
+use Rattle.layout.proofs.Standing.{Bytes}
+use Rattle.layout.specs.Parse.{Read, readIf, readSets, parseSheet}
+use Rattle.layout.proofs.ParseLaws.{then-go, then-none, parsedOutcome, parsedLeft, parse-loads}
+use Rattle.sets.specs.Stored.{storeSets}
+use Rattle.table.specs.declared.Table.{Table}
+use Rattle.table.specs.Stored.{tableOf, storeTable}
 use Rattle.sheet.specs.declared.ReadNumber.the-variants as number
 use Rattle.sheet.specs.declared.ReadSets.{ReadSets}
 use Rattle.sheet.specs.declared.Loaded.{Loaded}
@@ -28,30 +30,30 @@ loadedAs (some t) = record { outcome = Done; table = storeTable t }
 
 loads-as : (bytes : List ℕ) → Bytes bytes → (o : Option Content) → parseSheet bytes ≡ o → Loads bytes (loadedAs o)
 unfolding loadedAs notLoaded parsedOutcome parsedLeft
-loads-as bytes byte none p = record { left = []; load = rw p at (parse-loads bytes byte); stored = refl }
+loads-as bytes byte none p = record { left = nothing; load = rw p at (parse-loads bytes byte); stored = refl }
 loads-as bytes byte (some t) p = record { left = t; load = rw p at (parse-loads bytes byte); stored = refl }
 
 loads-by : (bytes : List ℕ) → Bytes bytes → (o : Option Content) (r : Loaded) → parseSheet bytes ≡ o → r ≡ loadedAs o → Loads bytes r
 loads-by bytes byte o r p e = subst (Loads bytes) (sym e) (loads-as bytes byte o p)
 
-sets-none : (o : Option (Read Content)) (r : ReadSets) → r ≡ setsAs o → r .ok ≡ false → o ≡ none
+sets-none : (o : Option (Read Entries)) (r : ReadSets) → r ≡ setsAs o → r .ok ≡ false → o ≡ none
 unfolding setsAs
 sets-none none r e f = refl
 sets-none (some x) r e f = true-false (ap (λ (y : ReadSets). y .ok) e) f
 
-record AreSets (o : Option (Read Content)) (r : ReadSets) : Type 0 where
-  value : Content
+record AreSets (o : Option (Read Entries)) (r : ReadSets) : Type 0 where
+  value : Entries
   there : o ≡ some (record { value = value; next = r .next })
-  table-is : r .table ≡ storeTable value
+  sets-are : r .sets ≡ storeSets value
 
-sets-some : (o : Option (Read Content)) (r : ReadSets) → r ≡ setsAs o → r .ok ≡ true → AreSets o r
+sets-some : (o : Option (Read Entries)) (r : ReadSets) → r ≡ setsAs o → r .ok ≡ true → AreSets o r
 unfolding setsAs noSets
 sets-some none r e t = true-false t (ap (λ (y : ReadSets). y .ok) e)
 sets-some (some x) r e t =
     record {
       value = x .value;
       there = λ i. some (record { value = x .value; next = sym e i .next });
-      table-is = ap (λ (y : ReadSets). y .table) e;
+      sets-are = ap (λ (y : ReadSets). y .sets) e;
     }
 
 module _ (bytes : List ℕ) (byte : Bytes bytes) where
@@ -75,9 +77,9 @@ module _ (bytes : List ℕ) (byte : Bytes bytes) where
           let m = sets-some _ s l t in
           loads-by bytes byte none r (then-go _ _ (number-some _ count place n) ∙ then-go _ _ (m .there) ∙ rw (ne-eqb (s .next) (length bytes) d)) e
 
-      pub load-made : s .ok ≡ true → s .next ≡ length bytes → Loads bytes (record { outcome = Done; table = s .table })
+      pub load-made : s .ok ≡ true → s .next ≡ length bytes → (u : Table) → u ≡ tableOf (s .sets) → Loads bytes (record { outcome = Done; table = u })
       unfolding parseSheet loadedAs
-      load-made t d =
+      load-made t d u q =
           let m = sets-some _ s l t in
-          loads-by bytes byte (some (m .value)) _ (then-go _ _ (number-some _ count place n) ∙ then-go _ _ (m .there) ∙ rw (eq-eqb (s .next) (length bytes) d))
-          (λ i. record { outcome = Done; table = m .table-is i })
+          loads-by bytes byte (some (justSets (m .value))) _ (then-go _ _ (number-some _ count place n) ∙ then-go _ _ (m .there) ∙ rw (eq-eqb (s .next) (length bytes) d))
+          (λ i. record { outcome = Done; table = (q ∙ ap tableOf (m .sets-are)) i })

@@ -9,8 +9,8 @@ use lib.ListN.{length, getD}
 use lib.Dec.{eqb, ltb}
 use borrow.Author.Tests.{eq-eqb, ne-eqb, lt-ltb, le-ltb, le-leb, lt-leb, ltb-false, eqb-true, eqb-false}
 use Rattle.rules.proofs.Basics.{cases-bool, or-false-left, or-false-right}
-use Rattle.rules.proofs.SheetParse.{readGroups, readNumber}
-use Rattle.rules.proofs.SheetParseLaws.{groups-turn, Room, room-more, room-scale}
+use Rattle.layout.specs.Parse.{readGroups, readNumber}
+use Rattle.layout.proofs.ParseLaws.{groups-turn, Room, room-more, room-scale}
 use Rattle.sheet.specs.declared.ReadNumber.the-variants.{At, Wrong}
 use Rattle.sheet.specs.Reading.{numberAs}
 

@@ -8,16 +8,16 @@ use mathlib.Core.Option.{Option, none, some}
 use lib.ListN.{length, set, length-append, length-map}
 use Rattle.rules.specs.Arrays.{padded}
 use Rattle.rules.specs.Field.{Pair}
-use Rattle.rules.specs.Collecting.{Content, Shown, keyWidth}
-use Rattle.rules.specs.Sheet.{alone}
+use Rattle.rules.specs.Collecting.{Entries, Shown}
+use Rattle.layout.specs.Sheet.{alone}
 use Rattle.rules.proofs.Basics.{true-false, map-append}
-use Rattle.rules.proofs.SheetBasics.{Bytes}
-use Rattle.rules.proofs.SheetParse.{Read, readPairs, Head, readHead, setOf, readSet, readSets}
-use Rattle.rules.proofs.SheetParseLaws.{then-go, then-none, head-read, count-rules, sets-turn, sets-end}
+use Rattle.layout.proofs.Standing.{Bytes}
+use Rattle.layout.specs.Parse.{Read, readPairs, Head, readHead, setOf, readSet, readSets}
+use Rattle.layout.proofs.ParseLaws.{then-go, then-none, head-read, count-rules, sets-turn, sets-end}
 use Rattle.rules.proofs.Arrays.{padded-default, set-column}
 use Rattle.lists.specs.declared.IdList.{IdList}
 use Rattle.lists.specs.Stored.{emptyList, storeList, storeMaybe}
-use Rattle.table.specs.Stored.{keyIn, onIn, shownIn, draftIn, storeTable}
+use Rattle.sets.specs.Stored.{storeSets, keyIn, onIn, shownIn, draftIn}
 use Rattle.sheet.specs.declared.SetHead.{SetHead}
 use Rattle.sheet.specs.declared.ReadHead.the-variants as head
 use Rattle.sheet.specs.declared.ReadList.{ReadList}
@@ -77,7 +77,7 @@ module _ (last : ℕ) (bytes : List ℕ) (at : ℕ) where
     pub set-count : Bytes bytes → h .count ≤ 128
     set-count byte = count-rules (h .count) (head-read last bytes at _ byte (head-some _ h place e) .0 .count) .1
 
-    module _ (r : ReadList) (l : r ≡ listAs (h .named) (readPairs (h .count) (keyWidth (h .key)) (h .named) [] bytes place)) where
+    module _ (r : ReadList) (l : r ≡ listAs (h .named) (readPairs (h .count) (h .key) (h .named) [] bytes place)) where
       pub set-no-list : r .ok ≡ false → noSet ≡ setAs (readSet last bytes at)
       unfolding readSet setAs
       set-no-list f =
@@ -121,7 +121,7 @@ set-some (some x) r e t =
 
 -- i of them stand in the arrays, and what is still to be read is what was to be read
 pub record Filled (count : ℕ) (bytes : List ℕ) (at : ℕ) (draft : List IdList) (keys : List ℕ) (on : List Bool) (shown : List IdList) (last place i : ℕ) : Type 0 where
-  pub read : Content
+  pub read : Entries
   pub many : length read ≡ i
   pub keys-are : keys ≡ padded 32 0 (map keyIn read)
   pub on-are : on ≡ padded 32 false (map onIn read)
@@ -173,15 +173,15 @@ module _ (count : ℕ) (bytes : List ℕ) (at : ℕ) where
         }
 
     pub sets-made : i ≤ count → count ≤ i
-        → _≡_ {A = ReadSets} (record { ok = true; table = record { count = count; keys = keys; on = on; shown = shown; draft = draft }; next = place })
+        → _≡_ {A = ReadSets} (record { ok = true; sets = record { count = count; keys = keys; on = on; shown = shown; draft = draft }; next = place })
         (setsAs (readSets count 0 [] bytes at))
-    unfolding setsAs storeTable
+    unfolding setsAs storeSets
     sets-made a b =
         let l : count ≡ length (g .read) = omega (arith, g .many) in
         (λ j.
         record {
           ok = true;
-          table = record { count = l j; keys = g .keys-are j; on = g .on-are j; shown = g .shown-are j; draft = g .draft-are j };
+          sets = record { count = l j; keys = g .keys-are j; on = g .on-are j; shown = g .shown-are j; draft = g .draft-are j };
           next = place;
         })
         ∙ ap setsAs (sym (sets-end count i last (g .read) bytes place b) ∙ g .rest)

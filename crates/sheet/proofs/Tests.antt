@@ -3,17 +3,17 @@
 use Prim.Native.Nat.{ℕ, _/_, _%_, _^_, _<_, _≤_}
 use native.Mathlib.Omega.{arith}
 use mathlib.Core.Path.{_≡_, refl, sym, ap}
-use mathlib.Core.Bool.{Bool, true, false, not, cond, _&&_, _||_, and-false, or-true}
+use mathlib.Core.Bool.{Bool, true, false, not, cond, _&&_, _||_, or-false, or-true}
 use mathlib.Core.List.{List}
 use mathlib.Core.Option.{Option, none, some}
 use lib.Dec.{ltb, eqb}
 use borrow.Author.Tests.{eq-eqb, ne-eqb, lt-ltb, le-ltb, le-leb, lt-leb}
-use Rattle.rules.specs.Field.{Pair, pair, dab}
+use Rattle.rules.specs.Field.{Pair, pair}
 use Rattle.rules.specs.Family.{member}
-use Rattle.rules.specs.Collecting.{linkage, kindNamed, namesMeet}
+use Rattle.rules.specs.Collecting.{linkage, mayBegin, kindNamed, namesMeet}
 use Rattle.rules.proofs.Basics.{cases-bool, never-true}
-use Rattle.rules.proofs.SheetParse.{Read, readNumber, readIf, numberFits, keyFits, countFits}
-use Rattle.rules.proofs.SheetParseLaws.{then-some, then-go, then-none, cond-some}
+use Rattle.layout.specs.Parse.{Read, readNumber, readIf, numberFits, keyFits, countFits}
+use Rattle.layout.proofs.ParseLaws.{then-some, then-go, then-none, cond-some}
 use Rattle.rules.proofs.TableRules.{kind-small}
 use Rattle.sheet.specs.declared.ReadNumber.the-variants.{At, Wrong}
 use Rattle.sheet.specs.Reading.{numberAs}
@@ -102,25 +102,22 @@ module _ (count : ℕ) where
   count-passes a h = rw (le-leb 1 count a, le-leb count 128 h)
 
 -- a kind of the next identifier, or of the first
-abbrev pub kindTest : ℕ → Bool → ℕ → Bool
-kindTest named first k = kindNamed named k && (eqb k dab || not first)
+abbrev pub kindTest : ℕ → ℕ → Bool → ℕ → Bool
+kindTest key named first k = kindNamed named k && (mayBegin key k || not first)
 
-module _ (named : ℕ) (first : Bool) (k : ℕ) where
-  pub kind-dab : k ≡ 0 → kindTest named first k ≡ true
-  unfolding kindNamed
-  kind-dab e = rw (eq-eqb k 0 e)
-
-  pub kind-first : (k ≡ 0 → ⊥) → first ≡ true → kindTest named first k ≡ false
-  kind-first n f = rw (ne-eqb k 0 n, f, and-false)
-
-  pub kind-large : 4 ≤ k → kindTest named first k ≡ false
+module _ (key named : ℕ) (first : Bool) (k : ℕ) where
+  pub kind-large : 4 ≤ k → kindTest key named first k ≡ false
   kind-large h = rw (never-true (kindNamed named k) (λ t. omega (arith, kind-small named k t)))
 
-  pub kind-unnamed : kindNamed named k ≡ false → kindTest named first k ≡ false
+  pub kind-unnamed : kindNamed named k ≡ false → kindTest key named first k ≡ false
   kind-unnamed t = rw t
 
-  pub kind-passes : first ≡ false → kindNamed named k ≡ true → kindTest named first k ≡ true
-  kind-passes f t = rw (t, f, or-true)
+  module _ (t : kindNamed named k ≡ true) where
+    pub kind-later : first ≡ false → kindTest key named first k ≡ true
+    kind-later f = rw (t, f, or-true)
+
+    pub kind-first : first ≡ true → {b : Bool} → mayBegin key k ≡ b → kindTest key named first k ≡ b
+    kind-first f e = rw (t, f, or-false) e
 
 module _ (w : ℕ) (acc : List Pair) (kind number : ℕ) where
   pub id-wide : ltb number (256 ^ w) ≡ false → numberFits w acc kind number ≡ false

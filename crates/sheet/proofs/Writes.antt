@@ -10,18 +10,18 @@ use lib.ListN.{length, getD, drop, length-append}
 use Rattle.rules.specs.Block.{bit}
 use Rattle.rules.specs.Field.{Pair, pair}
 use Rattle.rules.specs.Collecting.{Content, Shown, meets, shownSets}
-use Rattle.rules.specs.Sheet.{sheetNumber, sheetPairs, sheetSet, sheetSets, sheet}
-use Rattle.rules.proofs.SheetLaws.{shown-entries, sets-most}
+use Rattle.layout.specs.Sheet.{sheetNumber, sheetPairs, sheetSet, sheetSets, sheet}
+use Rattle.layout.proofs.Laws.{shown-entries, sets-most}
 use Rattle.rules.proofs.TableRules.{table-rules, shown-few}
 use Rattle.lists.specs.declared.IdList.{IdList}
 use Rattle.lists.specs.Stored.{pairsIn}
 use Rattle.lists.proofs.Pairs.{length-pairs-in, drop-pairs, drop-pairs-end}
 use Rattle.lists.proofs.StoredLaws.{holds-facts}
-use Rattle.table.specs.declared.Table.{Table}
-use Rattle.table.specs.Stored.{storeTable, past, EachHolds, Stored}
-use Rattle.table.specs.Shown.{setIn, shownAs, setsFrom, setsIn}
-use Rattle.table.proofs.TableLaws.{stored-facts}
-use Rattle.table.proofs.ShownLaws.{shownAt, sets-next, sets-stored}
+use Rattle.sets.specs.declared.Sets.{Sets}
+use Rattle.sets.specs.Stored.{storeSets, SetsStored, past, EachHolds}
+use Rattle.sets.specs.Shown.{setIn, shownAs, setsFrom, setsIn}
+use Rattle.sets.proofs.SetsLaws.{stored-facts}
+use Rattle.sets.proofs.ShownLaws.{shownAt, sets-next, sets-stored}
 use Rattle.out.specs.Put.{Puts}
 use Rattle.out.proofs.Runs.{puts-as, puts-then}
 use Rattle.sheet.proofs.Groups.{number-short}
@@ -77,7 +77,7 @@ module _ (list : IdList) (kinds-long : length (list .kinds) ≡ 128) (numbers-lo
 
 -- ---- the sets of a table, where `n` is the number of its entries
 
-module _ (t : Table) (i n : ℕ) where
+module _ (t : Sets) (i n : ℕ) where
   pub sets-here : i < n → (getD (t .shown) i past .len ≡ 0 → ⊥)
       → sheetSets (setsFrom t i (n - i)) ≡ sheetSet (shownAt t i) ++ sheetSets (setsFrom t (i + 1) (n - (i + 1)))
   unfolding sheetSets
@@ -88,30 +88,30 @@ module _ (t : Table) (i n : ℕ) where
       → length (sheetSets (setsFrom t i (n - i))) ≡ length (sheetSet (shownAt t i)) + length (sheetSets (setsFrom t (i + 1) (n - (i + 1))))
   size-sets h z = ap length (sets-here h z) ∙ length-append (sheetSet (shownAt t i)) (sheetSets (setsFrom t (i + 1) (n - (i + 1))))
 
--- ---- a stored table
+-- ---- stored sets
 
-pub table-short : (t : Table) → Stored t → t .count ≤ 32
-table-short t s = stored-facts t s .short
+pub count-short : (t : Sets) → SetsStored t → t .count ≤ 32
+count-short t s = stored-facts t s .short
 
-pub list-short : (t : Table) (i : ℕ) → Stored t → i < t .count → getD (t .shown) i past .len ≤ 128
+pub list-short : (t : Sets) (i : ℕ) → SetsStored t → i < t .count → getD (t .shown) i past .len ≤ 128
 unfolding EachHolds
-list-short t i s h = holds-facts (getD (t .keys) i 0) _ (stored-facts t s .shown-hold i (omega (arith, table-short t s))) .short
+list-short t i s h = holds-facts (getD (t .keys) i 0) _ (stored-facts t s .shown-hold i (omega (arith, count-short t s))) .short
 
 -- its sets take few bytes
-pub sets-short : (t : Table) → Stored t → length (sheetSets (setsIn t)) ≤ 24800
-unfolding Stored
+pub sets-short : (t : Sets) → SetsStored t → length (sheetSets (setsIn t)) ≤ 24800
+unfolding SetsStored
 sets-short t s =
     let r = table-rules (s .0) .0 (s .1) in
     rw (ap setsIn (s .2) ∙ sets-stored (s .0) (s .1))
     (omega (arith, r .short, shown-few (s .0), sets-most (shownSets (s .0)) (shown-entries (s .0) (r .entries))))
 
 -- its sheet, by the sets in its arrays
-module _ (t : Table) (c : Content) (m : meets c ≡ true) (e : t ≡ storeTable c) {count : ℕ} (count-is : count ≡ length (setsIn t)) where
+module _ (t : Sets) (c : Content) (m : meets c ≡ true) (e : t ≡ storeSets (c .sets)) {count : ℕ} (count-is : count ≡ length (setsIn t)) where
   sheet-of : sheetNumber count ++ sheetSets (setsIn t) ≡ sheet c
   unfolding sheet
   sheet-of =
       ap (λ (n : ℕ). sheetNumber n ++ sheetSets (setsIn t)) count-is
-      ∙ ap (λ (ss : List Shown). sheetNumber (length ss) ++ sheetSets ss) (ap setsIn e ∙ sets-stored c m)
+      ∙ ap (λ (ss : List Shown). sheetNumber (length ss) ++ sheetSets ss) (ap setsIn e ∙ sets-stored (c .sets) m)
 
   pub size-sheet : {n size : ℕ} → n ≡ length (sheetNumber count) → size ≡ length (sheetSets (setsIn t)) → n + size ≡ length (sheet c)
   size-sheet a b = omega (arith, length-append (sheetNumber count) (sheetSets (setsIn t)), ap length sheet-of)

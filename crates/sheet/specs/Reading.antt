@@ -1,13 +1,13 @@
--- What was read of a sheet (SheetParse of crate rules), as the code hands it over: it with the place after it, or nothing.
+-- What was read of a sheet (Parse of crate layout), as the code hands it over: it with the place after it, or nothing.
 use Prim.Native.Nat.{ℕ}
 use mathlib.Core.Bool.{true, false}
 use mathlib.Core.List.{List, [], _∷_, _++_}
 use mathlib.Core.Option.{Option, none, some}
 use Rattle.rules.specs.Field.{Pair, pair}
-use Rattle.rules.specs.Collecting.{Content, Shown}
-use Rattle.rules.proofs.SheetParse.{Read, Head}
+use Rattle.rules.specs.Collecting.{Entries, Shown}
+use Rattle.layout.specs.Parse.{Read, Head}
 use Rattle.lists.specs.Stored.{emptyList, storeList}
-use Rattle.table.specs.Stored.{storeTable}
+use Rattle.sets.specs.Stored.{storeSets}
 use Rattle.sheet.specs.declared.ReadNumber.{ReadNumber}
 use Rattle.sheet.specs.declared.ReadNumber.the-variants as number
 use Rattle.sheet.specs.declared.SetHead.{SetHead}
@@ -56,11 +56,11 @@ unfoldable pub setAs : Option (Read Shown) → ReadSet
 setAs none = noSet
 setAs (some r) = record { ok = true; key = r .value .key; on = r .value .on; list = storeList (r .value .set); next = r .next }
 
--- no sets: the empty table
+-- no sets
 unfoldable pub noSets : ReadSets
-noSets = record { ok = false; table = storeTable []; next = 0 }
+noSets = record { ok = false; sets = storeSets []; next = 0 }
 
--- sets, stored as a table
-unfoldable pub setsAs : Option (Read Content) → ReadSets
+-- sets, as they are stored
+unfoldable pub setsAs : Option (Read Entries) → ReadSets
 setsAs none = noSets
-setsAs (some r) = record { ok = true; table = storeTable (r .value); next = r .next }
+setsAs (some r) = record { ok = true; sets = storeSets (r .value); next = r .next }

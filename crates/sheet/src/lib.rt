@@ -1,6 +1,6 @@
 // The stored sheet of a table (document 01, The stored sheet): writing it into a lent buffer, and loading a
 // table from it. Every function is proved, and none that is `pub` has a `requires`. The sheet's bytes are
-// `sheet` of crate rules, and a sheet is read as that crate's parser reads it, test by test.
+// `sheet` of crate layout, and a sheet is read as that crate's parser reads it, test by test.
 
 ghost use mathlib.Core.Path.{_≡_};
 ghost use mathlib.Core.Bool.{not, _&&_, _||_};
@@ -9,15 +9,14 @@ ghost use Prim.Native.Nat.{_≤_};
 ghost use lib.Dec.{eqb, leb, ltb};
 ghost use lib.ListN.{length};
 ghost use Rattle.rules.specs.Block.{bit};
-ghost use Rattle.rules.specs.Field.{dab};
-ghost use Rattle.rules.specs.Collecting.{keyWidth, kindNamed, namesMeet};
-ghost use Rattle.rules.specs.Sheet.{sheetNumber, sheetPairs, sheetSet, sheetSets};
-ghost use Rattle.rules.proofs.SheetParse.{readNumber, readIf, numberFits, readPair, readPairs, keyFits, countFits, readHead, readSet, readSets};
+ghost use Rattle.rules.specs.Collecting.{keyWidth, mayBegin, kindNamed, namesMeet};
+ghost use Rattle.layout.specs.Sheet.{sheetNumber, sheetPairs, sheetSet, sheetSets, sheet};
+ghost use Rattle.layout.specs.Parse.{readNumber, readIf, numberFits, readPair, readPairs, keyFits, countFits, readHead, readSet, readSets};
 ghost use Rattle.lists.specs.Stored.{pairsIn};
-ghost use Rattle.table.specs.Stored.{Stored};
-ghost use Rattle.table.specs.Shown.{shownAs, setsIn};
+ghost use Rattle.sets.specs.Stored.{SetsStored};
+ghost use Rattle.sets.specs.Shown.{shownAs, setsIn};
 ghost use Rattle.out.specs.Put.{Puts};
-ghost use Rattle.sheet.specs.Writing.{Writes};
+ghost use Rattle.out.specs.Answer.{Outputs};
 ghost use Rattle.sheet.specs.Reading.{numberAs, pairRead, noList, listAs, headAs, noSet, setAs, noSets, setsAs};
 ghost use Rattle.sheet.specs.Loading.{notLoaded, Loads};
 use lists::IdList;
@@ -25,6 +24,7 @@ use out::Written;
 use out::cut_to;
 use out::put;
 use rules::Outcome;
+use sets::Sets;
 use table::Table;
 
 // ---- writing
@@ -118,36 +118,36 @@ fn put_set(out: &mut [u8], at: usize, key: u32, on: bool, list: IdList) -> usize
     put_pairs(out, d, list)
 }
 
-// How many bytes the shown sets of a table take.
-fn sets_size(table: Table) -> usize
-    requires { ⌜ Stored table ⌝ }
-    ensures { λ r. ⌜ r ≡ length (sheetSets (setsIn table)) ⌝ }
+// How many bytes the shown sets take.
+fn sets_size(sets: Sets) -> usize
+    requires { ⌜ SetsStored sets ⌝ }
+    ensures { λ r. ⌜ r ≡ length (sheetSets (setsIn sets)) ⌝ }
 {
-    let count = table.count;
+    let count = sets.count;
     let mut size = 0;
     let mut i = 0;
     while i < count {
-        let list = table.shown[i];
+        let list = sets.shown[i];
         if list.len != 0 {
-            size += set_size(table.keys[i], table.on[i], list);
+            size += set_size(sets.keys[i], sets.on[i], list);
         }
         i += 1;
     }
     size
 }
 
-// The shown sets of a table at a place, and the place after them.
-fn put_sets(out: &mut [u8], at: usize, table: Table) -> usize
-    requires { ⌜ Stored table ⌝ }
-    ensures { λ r. ⌜ Puts (now (out .entry)) at (sheetSets (setsIn table)) (now (out .exit)) r ⌝ }
+// The shown sets at a place, and the place after them.
+fn put_sets(out: &mut [u8], at: usize, sets: Sets) -> usize
+    requires { ⌜ SetsStored sets ⌝ }
+    ensures { λ r. ⌜ Puts (now (out .entry)) at (sheetSets (setsIn sets)) (now (out .exit)) r ⌝ }
 {
-    let count = table.count;
+    let count = sets.count;
     let mut p = cut_to(at, out.len());
     let mut i = 0;
     while i < count {
-        let list = table.shown[i];
+        let list = sets.shown[i];
         if list.len != 0 {
-            p = put_set(out, p, table.keys[i], table.on[i], list);
+            p = put_set(out, p, sets.keys[i], sets.on[i], list);
         }
         i += 1;
     }
@@ -158,7 +158,7 @@ fn put_sets(out: &mut [u8], at: usize, table: Table) -> usize
 // table is not a stored one that meets the rules; then 8 where the buffer is too short for the sheet.
 // With either nothing is written.
 pub fn write_sheet(table: Table, out: &mut [u8]) -> Written
-    ensures { λ r. ⌜ Writes table (now (out .entry)) r (now (out .exit)) ⌝ }
+    ensures { λ r. ⌜ Outputs sheet table (now (out .entry)) r (now (out .exit)) ⌝ }
 {
     if !table.meets() {
         return Written {
@@ -166,8 +166,9 @@ pub fn write_sheet(table: Table, out: &mut [u8]) -> Written
             size: 0,
         };
     }
-    let count = table.shown_count() as u32;
-    let size = number_size(count) + sets_size(table);
+    let sets = table.sets;
+    let count = sets.shown_count() as u32;
+    let size = number_size(count) + sets_size(sets);
     if out.len() < size {
         return Written {
             outcome: Outcome::ShortBuffer,
@@ -175,7 +176,7 @@ pub fn write_sheet(table: Table, out: &mut [u8]) -> Written
         };
     }
     let p = put_number(out, 0, count);
-    let end = put_sets(out, p, table);
+    let end = put_sets(out, p, sets);
     Written {
         outcome: Outcome::Done,
         size: end,
@@ -225,10 +226,10 @@ struct ReadSet {
     next: usize,
 }
 
-// The table of sets that were read; where they are not sets, the empty table and place 0.
+// Sets that were read; where they are not sets, none and place 0.
 struct ReadSets {
     ok: bool,
-    table: Table,
+    sets: Sets,
     next: usize,
 }
 
@@ -371,22 +372,22 @@ fn read_head(last: u32, bytes: &[u8], at: usize) -> ReadHead
     ReadHead::At(head, next)
 }
 
-// The kind of the next identifier, or of the first, of a list with these named kinds.
-fn read_kind(named: u8, first: bool, bytes: &[u8], at: usize) -> ReadNumber
-    ensures { λ r. ⌜ r ≡ numberAs (readIf (λ k. kindNamed named k && (eqb k dab || not first)) (now (bytes .entry)) at) ⌝ }
+// The kind of the next identifier, or of the first, of a key's list with these named kinds.
+fn read_kind(key: u32, named: u8, first: bool, bytes: &[u8], at: usize) -> ReadNumber
+    ensures { λ r. ⌜ r ≡ numberAs (readIf (λ k. kindNamed named k && (mayBegin key k || not first)) (now (bytes .entry)) at) ⌝ }
 {
     match read_number(bytes, at) {
         ReadNumber::At(kind, next) => {
-            if kind == 0 {
-                return ReadNumber::At(kind, next);
-            }
-            if first {
-                return ReadNumber::Wrong;
-            }
             if 255 < kind {
                 return ReadNumber::Wrong;
             }
-            if lists::kind_named(named, kind as u8) {
+            if !lists::kind_named(named, kind as u8) {
+                return ReadNumber::Wrong;
+            }
+            if !first {
+                return ReadNumber::At(kind, next);
+            }
+            if lists::may_begin(key, kind as u8) {
                 ReadNumber::At(kind, next)
             } else {
                 ReadNumber::Wrong
@@ -434,9 +435,9 @@ fn read_pair<'a>(
 ) -> ReadPair
     requires { ⌜ (len ≤ length (now numbers)) × (len ≤ length (now kinds)) ⌝ }
     ensures { λ r. ⌜ pairRead (pairsIn (now (kinds .entry)) (now (numbers .entry)) len) r
-        ≡ readPair (keyWidth key) named (pairsIn (now (kinds .entry)) (now (numbers .entry)) len) (now (bytes .entry)) at ⌝ }
+        ≡ readPair key named (pairsIn (now (kinds .entry)) (now (numbers .entry)) len) (now (bytes .entry)) at ⌝ }
 {
-    let ReadNumber::At(k, place) = read_kind(named, len == 0, bytes, at) else {
+    let ReadNumber::At(k, place) = read_kind(key, named, len == 0, bytes, at) else {
         return ReadPair::Wrong;
     };
     let kind = k as u8;
@@ -460,7 +461,7 @@ fn no_list() -> ReadList
 // The list of this many identifiers.
 fn read_list(key: u32, named: u8, count: usize, bytes: &[u8], at: usize) -> ReadList
     requires { ⌜ count ≤ 128 ⌝ }
-    ensures { λ r. ⌜ r ≡ listAs named (readPairs count (keyWidth key) named [] (now (bytes .entry)) at) ⌝ }
+    ensures { λ r. ⌜ r ≡ listAs named (readPairs count key named [] (now (bytes .entry)) at) ⌝ }
 {
     let mut numbers = [0u32; 128];
     let mut kinds = [0u8; 128];
@@ -530,12 +531,12 @@ fn no_sets() -> ReadSets
 {
     ReadSets {
         ok: false,
-        table: Table::empty(),
+        sets: Sets::empty(),
         next: 0,
     }
 }
 
-// The table of this many sets, in ascending key order.
+// This many sets, in ascending key order.
 fn read_sets(count: usize, bytes: &[u8], at: usize) -> ReadSets
     requires { ⌜ count ≤ 32 ⌝ }
     ensures { λ r. ⌜ r ≡ setsAs (readSets count 0 [] (now (bytes .entry)) at) ⌝ }
@@ -561,7 +562,7 @@ fn read_sets(count: usize, bytes: &[u8], at: usize) -> ReadSets
         place = read.next;
         i += 1;
     }
-    let table = Table {
+    let sets = Sets {
         count,
         keys,
         on,
@@ -570,7 +571,7 @@ fn read_sets(count: usize, bytes: &[u8], at: usize) -> ReadSets
     };
     ReadSets {
         ok: true,
-        table,
+        sets,
         next: place,
     }
 }
@@ -606,9 +607,9 @@ pub fn load_sheet(bytes: &[u8]) -> Loaded
     if read.next != bytes.len() {
         return not_a_sheet();
     }
-    let table = read.table;
+    let sets = read.sets;
     Loaded {
         outcome: Outcome::Done,
-        table,
+        table: Table::of(sets),
     }
 }

@@ -1,24 +1,24 @@
--- Copying to the front of a buffer, one value further, and what a stored set hands out.
+-- Copying to the front of a buffer, one value further; and what a stored set hands out.
 use Prim.Native.Nat.{ℕ, _+_, _-_, _<_, _≤_}
 use native.Mathlib.Omega.{arith}
 use mathlib.Core.Path.{_≡_, refl, sym, ap, ap₂, _∙_}
+use mathlib.Core.Bool.{true, _||_, cond}
 use mathlib.Core.List.{List, _++_, map}
-use lib.ListN.{length, getD, set, take, drop, length-drop, length-append, List·getD-append}
-use lib.Seq.{length-take-le, getD-take, take-append-le, take-all}
 use mathlib.Core.Option.{Option, none, some}
-use mathlib.Core.Bool.{true}
-use lib.ListN.{length-map}
-use borrow.Author.Tests.{lt-ltb, le-ltb}
-use native.Mathlib.Nat.{not-suc-le-zero}
+use lib.ListN.{length, getD, set, take, drop, length-map, length-drop, length-append, List·getD-append}
+use lib.Dec.{ltb}
+use lib.Seq.{length-take-le, getD-take, take-append-le, take-all}
+use borrow.Author.Tests.{ne-eqb}
 use Rattle.rules.specs.Arrays.{padded}
-use Rattle.rules.specs.declared.Outcome.the-variants.{Done, NotShown, ShortBuffer}
+use Rattle.rules.specs.declared.Outcome.the-variants.{Done, ShortBuffer}
+use Rattle.rules.specs.Field.{numberIn, kindIn}
 use Rattle.rules.specs.Collecting.{IdSet, Held, ifThere}
-use Rattle.rules.specs.Outcomes.{overwritten, Copied, notCopied, copySet, numberIn, kindIn}
+use Rattle.rules.specs.Outcomes.{overwritten, notCopied, copySet}
 use Rattle.rules.proofs.Arrays.{take-padded}
-use Rattle.lists.specs.declared.IdList.{IdList}
 use Rattle.lists.specs.Stored.{storeList, emptyList, storeMaybe}
 use Rattle.lists.proofs.StoredLaws.{stored-some}
-use Rattle.table.proofs.Shifts.{blend, blend-step}
+use Rattle.sets.proofs.Shifts.{blend, blend-step}
+use Rattle.table.specs.Answers.{copyStored}
 
 module _ (n : ℕ) (from to : List ℕ) (hf : n ≤ length from) (ht : n ≤ length to) where
   length-copy : length (overwritten (take n from) to) ≡ length to
@@ -55,66 +55,25 @@ module _ (n : ℕ) (from to : List ℕ) (hf : n ≤ length from) (ht : n ≤ len
 
 -- ---- a stored set handed out
 
--- what is handed out of a stored list
-unfoldable pub copied : Held → IdList → List ℕ → List ℕ → Copied
-copied e s ns ks =
-    record {
-      outcome = Done;
-      key = e .key;
-      on = e .state;
-      named = s .named;
-      count = s .len;
-      numbers = overwritten (take (s .len) (s .numbers)) ns;
-      kinds = overwritten (take (s .len) (s .kinds)) ks;
-    }
-
-copy-some : (e : Held) (l : IdSet) (ns ks : List ℕ) → length (l .items) ≤ length ns → length (l .items) ≤ length ks
-    → copied e (storeList l) ns ks ≡ copySet e (some l) ns ks
-unfolding copied copySet storeList
-copy-some e l ns ks g h =
-    let a : take (length (l .items)) (padded 128 0 (map numberIn (l .items))) ≡ map numberIn (l .items) =
-    take-padded 128 0 (map numberIn (l .items)) (length (l .items)) (length-map (l .items) numberIn) in
-    let b : take (length (l .items)) (padded 128 0 (map kindIn (l .items))) ≡ map kindIn (l .items) =
-    take-padded 128 0 (map kindIn (l .items)) (length (l .items)) (length-map (l .items) kindIn) in
-    rw (le-ltb (length ns) (length (l .items)) g, le-ltb (length ks) (length (l .items)) h)
-    (λ i. record {
+-- is what the rules hand out of it
+pub copy-stored : (key : ℕ) (e : Held) (o : Option IdSet) (ns ks : List ℕ) → ifThere key o ≡ true
+    → copyStored (storeMaybe o) (e .key) (e .state) ns ks ≡ copySet e o ns ks
+unfolding copyStored copySet storeMaybe storeList emptyList
+copy-stored key e none ns ks m = refl
+copy-stored key e (some l) ns ks m =
+    let n = length (l .items) in
+    let a : take n (padded 128 0 (map numberIn (l .items))) ≡ map numberIn (l .items) =
+    take-padded 128 0 (map numberIn (l .items)) n (length-map (l .items) numberIn) in
+    let b : take n (padded 128 0 (map kindIn (l .items))) ≡ map kindIn (l .items) =
+    take-padded 128 0 (map kindIn (l .items)) n (length-map (l .items) kindIn) in
+    rw (ne-eqb n 0 (stored-some key l m))
+    (λ i. cond (ltb (length ns) n || ltb (length ks) n) (notCopied ShortBuffer ns ks)
+    (record {
       outcome = Done;
       key = e .key;
       on = e .state;
       named = l .named;
-      count = length (l .items);
+      count = n;
       numbers = overwritten (a i) ns;
       kinds = overwritten (b i) ks;
-    })
-
-module _ (e : Held) (o : Option IdSet) (ns ks : List ℕ) where
-  pub copy-not-shown : (key : ℕ) → ifThere key o ≡ true → storeMaybe o .len ≡ 0 → notCopied NotShown ns ks ≡ copySet e o ns ks
-  copy-not-shown key m z = none-of o m z
-    where
-      none-of : (o : Option IdSet) → ifThere key o ≡ true → storeMaybe o .len ≡ 0 → notCopied NotShown ns ks ≡ copySet e o ns ks
-      none-of none m z = unfold copySet in refl
-      none-of (some l) m z = absurd (stored-some key l m z)
-
-  pub copy-short : length ns < storeMaybe o .len → notCopied ShortBuffer ns ks ≡ copySet e o ns ks
-  copy-short h = short-of o h
-    where
-      short-of : (o : Option IdSet) → length ns < storeMaybe o .len → notCopied ShortBuffer ns ks ≡ copySet e o ns ks
-      short-of none h = absurd (unfold storeMaybe emptyList in not-suc-le-zero h)
-      short-of (some l) h = unfold copySet storeMaybe storeList in rw (lt-ltb (length ns) (length (l .items)) h)
-
-  pub copy-short-kinds : storeMaybe o .len ≤ length ns → length ks < storeMaybe o .len → notCopied ShortBuffer ns ks ≡ copySet e o ns ks
-  copy-short-kinds g h = short-of o g h
-    where
-      short-of : (o : Option IdSet) → storeMaybe o .len ≤ length ns → length ks < storeMaybe o .len → notCopied ShortBuffer ns ks ≡ copySet e o ns ks
-      short-of none g h = absurd (unfold storeMaybe emptyList in not-suc-le-zero h)
-      short-of (some l) g h = unfold copySet storeMaybe storeList in rw (le-ltb (length ns) (length (l .items)) g, lt-ltb (length ks) (length (l .items)) h)
-
-  pub copy-done : (storeMaybe o .len ≡ 0 → ⊥) → storeMaybe o .len ≤ length ns → storeMaybe o .len ≤ length ks
-      → copied e (storeMaybe o) ns ks ≡ copySet e o ns ks
-  unfolding storeMaybe storeList
-  copy-done n g h = done-of o n g h
-    where
-      done-of : (o : Option IdSet) → (storeMaybe o .len ≡ 0 → ⊥) → storeMaybe o .len ≤ length ns → storeMaybe o .len ≤ length ks
-          → copied e (storeMaybe o) ns ks ≡ copySet e o ns ks
-      done-of none n g h = absurd (n (unfold storeMaybe emptyList in refl))
-      done-of (some l) n g h = copy-some e l ns ks g h
+    }))

@@ -1,116 +1,51 @@
--- What a table that is the stored form of a content says of it. In order: its count and its keys; a key's place in it; a table
--- with one entry set, more or less; forgetting; a refused table.
-use Prim.Native.Nat.{ℕ, suc, _+_, _-_, _<_, _≤_}
+-- What a function that is given a table owes, by the answer of the table's own test; forgetting a key; copying a set out.
+use Prim.Native.Nat.{ℕ, _<_, _≤_}
 use native.Mathlib.Omega.{arith}
 use mathlib.Core.Path.{_≡_, sym, ap, ap₂, _∙_, subst}
-use mathlib.Core.Bool.{Bool, true, false, false≢true}
-use mathlib.Core.List.{List, _++_, map}
-use mathlib.Core.Option.{Option}
-use lib.ListN.{length, getD, take, drop, replicate, length-map, length-append, length-drop, List·getD-append}
-use lib.Seq.{length-take-le}
-use Rattle.rules.specs.Arrays.{padded}
+use mathlib.Core.Bool.{Bool, true, false, _&&_, false≢true}
+use mathlib.Core.List.{List, map}
+use mathlib.Core.Option.{Option, none}
+use lib.ListN.{length, getD, take}
+use lib.Dec.{ltb, eqb}
+use borrow.Author.Tests.{ltb-true}
+use Rattle.rules.specs.declared.Outcome.{Outcome}
 use Rattle.rules.specs.declared.Outcome.the-variants.{Done, NotHeld}
 use Rattle.rules.specs.Family.{find, forget}
-use Rattle.rules.specs.Collecting.{linkage, Held, Content, meets, ascends}
-use Rattle.rules.specs.Outcomes.{forgetOutcome, heldOr}
-use Rattle.rules.proofs.Arrays.{take-padded}
-use Rattle.rules.proofs.TableRules.{table-rules}
-use Rattle.lists.specs.declared.IdList.{IdList}
-use Rattle.lists.specs.Stored.{emptyList, Tested}
-use Rattle.lists.proofs.StoredLaws.{holds-facts, holds-long}
+use Rattle.rules.specs.Collecting.{linkage, Held, Entries, Content, justSets, meets, ifThere}
+use Rattle.rules.specs.Outcomes.{forgetOutcome, forgotten, heldOr, notCopied, copyHeld, copyOut}
+use Rattle.rules.proofs.Basics.{and-left, getD-map}
+use Rattle.rules.proofs.TableRules.{table-rules, entry-rules}
+use Rattle.lists.specs.Stored.{emptyList, storeMaybe, Tested}
+use Rattle.sets.specs.declared.Sets.{Sets}
+use Rattle.sets.specs.Stored.{keyIn, onIn, shownIn, storeSets, SetsStored, past, shutSets}
+use Rattle.sets.specs.Places.{placeIn}
+use Rattle.sets.proofs.Entries.{Here, noEntry, find-here, find-not-here, forget-not-here, column-at, entry-at}
+use Rattle.sets.proofs.PlaceLaws.{place-at, store-forgets, Roomy, stored-short, stored-shown}
+use Rattle.sets.proofs.Contents.{store-injective}
 use Rattle.table.specs.declared.Table.{Table}
-use Rattle.table.specs.Stored.{keyIn, onIn, shownIn, draftIn, storeTable, Stored, Given, stored, notStored, past, EachHolds}
-use Rattle.table.specs.Places.{placeIn, shut}
-use Rattle.table.specs.Answers.{forgottenAs}
-use Rattle.table.proofs.TableLaws.{stored-facts}
-use Rattle.table.proofs.Entries.{Here, find-here, find-not-here, forget-here, forget-not-here, column-shut}
+use Rattle.table.specs.declared.Copied.{Copied}
+use Rattle.table.specs.Stored.{tableOf, storeTable, Stored, Given, stored, notStored}
+use Rattle.table.specs.Answers.{forgottenAs, copiedAs, copyStored}
+use Rattle.table.proofs.Copies.{copy-stored}
 
--- ---- count and keys
+-- ---- the test of a table is that of its sets
 
-module _ (t : Table) (c : Content) (e : t ≡ storeTable c) where
-  pub count-of : t .count ≡ length c
-  unfolding storeTable
-  count-of = ap (λ (u : Table). u .count) e
+pub tested-sets : (t : Table) {b : Bool} → Tested b (SetsStored (t .sets)) → Tested b (Stored t)
+unfolding SetsStored Stored
+tested-sets t w =
+    record {
+      sound = λ e. let s = w .sound e in (justSets (s .0), s .1, ap tableOf (s .2));
+      complete = λ s. w .complete (s .0 .sets, s .1, ap (λ (u : Table). u .sets) (s .2));
+    }
 
-  pub keys-of : take (t .count) (t .keys) ≡ map keyIn c
-  unfolding storeTable
-  keys-of = ap (λ (u : Table). take (u .count) (u .keys)) e ∙ take-padded 32 0 (map keyIn c) (length c) (length-map c keyIn)
+pub sets-stored : (t : Table) → Stored t → SetsStored (t .sets)
+unfolding SetsStored Stored
+sets-stored t s = (s .0 .sets, s .1, ap (λ (u : Table). u .sets) (s .2))
 
-  pub key-at : (i : ℕ) → i < length c → getD (t .keys) i 0 ≡ getD (map keyIn c) i 0
-  unfolding storeTable padded
-  key-at i h =
-      ap (λ (u : Table). getD (u .keys) i 0) e
-      ∙ List·getD-append (map keyIn c) (replicate (32 - length (map keyIn c)) 0) 0 i (rw (length-map c keyIn) h)
-
-  -- ---- a key's place
-
-  pub place-at : (k : ℕ) → placeIn (take (t .count) (t .keys)) k ≡ placeIn (map keyIn c) k
-  place-at k = ap (λ (ks : List ℕ). placeIn ks k) keys-of
-
-  module _ (at k : ℕ) (p : at ≡ placeIn (take (t .count) (t .keys)) k) where
-    pub is-here : at < t .count → getD (t .keys) at 0 ≡ k → Here c k
-    unfolding Here
-    is-here h q =
-        let i : at ≡ placeIn (map keyIn c) k = p ∙ place-at k in
-        let l : at < length c = subst (λ (n : ℕ). at < n) count-of h in
-        (subst (λ (n : ℕ). n < length c) i l, subst (λ (n : ℕ). getD (map keyIn c) n 0 ≡ k) i (sym (key-at at l) ∙ q))
-
-    pub not-past : t .count ≤ at → Here c k → ⊥
-    unfolding Here
-    not-past h g =
-        let i : at ≡ placeIn (map keyIn c) k = p ∙ place-at k in
-        omega (arith, count-of, g .0)
-
-    pub not-other : at < t .count → (getD (t .keys) at 0 ≡ k → ⊥) → Here c k → ⊥
-    unfolding Here
-    not-other h n g =
-        let i : at ≡ placeIn (map keyIn c) k = p ∙ place-at k in
-        let l : at < length c = subst (λ (n : ℕ). at < n) count-of h in
-        n (key-at at l ∙ subst (λ (m : ℕ). getD (map keyIn c) m 0 ≡ k) (sym i) (g .1))
-
--- ---- one entry less
-
-unfoldable pub shutTable : Table → ℕ → Table
-shutTable t i =
-    record { count = t .count - 1; keys = shut i 0 (t .keys); on = shut i false (t .on); shown = shut i emptyList (t .shown); draft = shut i emptyList (t .draft) }
-
-store-shut : (c : Content) (i : ℕ) → i < length c → length c ≤ 32 → storeTable (take i c ++ drop (suc i) c) ≡ shutTable (storeTable c) i
-unfolding storeTable shutTable
-store-shut c i h l =
-    let n : length (take i c ++ drop (suc i) c) ≡ length c - 1 =
-    length-append (take i c) (drop (suc i) c) ∙ ap₂ _+_ (length-take-le i c (omega arith)) (length-drop (suc i) c) ∙ omega arith in
-    let ks = column-shut keyIn 0 c i h l in
-    let os = column-shut onIn false c i h l in
-    let ss = column-shut shownIn emptyList c i h l in
-    let ds = column-shut draftIn emptyList c i h l in
-    λ j. record { count = n j; keys = ks j; on = os j; shown = ss j; draft = ds j }
-
-pub forget-held : (c : Content) (k : ℕ) → length c ≤ 32 → Here c k → (i : ℕ) → i ≡ placeIn (map keyIn c) k
-    → record { outcome = Done; table = shutTable (storeTable c) i } ≡ forgottenAs k c
-unfolding forgottenAs forgetOutcome heldOr Here
-forget-held c k l h i p =
-    let t : shutTable (storeTable c) i ≡ storeTable (forget linkage k c) =
-    ap (shutTable (storeTable c)) p ∙ sym (store-shut c (placeIn (map keyIn c) k) (h .0) l) ∙ ap storeTable (sym (forget-here c k h)) in
-    let o : Done ≡ heldOr (find linkage k c) Done = sym (ap (λ (f : Option Held). heldOr f Done) (find-here c k h)) in
-    λ j. record { outcome = o j; table = t j }
-
-pub forget-missing : (c : Content) (k : ℕ) → ascends 0 c ≡ true → (Here c k → ⊥) → record { outcome = NotHeld; table = storeTable c } ≡ forgottenAs k c
-unfolding forgottenAs forgetOutcome heldOr
-forget-missing c k a n =
-    let t : storeTable c ≡ storeTable (forget linkage k c) = ap storeTable (sym (forget-not-here 0 c k a n)) in
-    let o : NotHeld ≡ heldOr (find linkage k c) Done = sym (ap (λ (f : Option Held). heldOr f Done) (find-not-here 0 c k a n)) in
-    λ j. record { outcome = o j; table = t j }
-
-module _ (t : Table) (c : Content) (m : meets c ≡ true) (e : t ≡ storeTable c) (k at : ℕ) (p : at ≡ placeIn (take (t .count) (t .keys)) k) where
-  pub forgets-missing : (Here c k → ⊥) → record { outcome = NotHeld; table = t } ≡ forgottenAs k c
-  forgets-missing n = ap (λ (u : Table). record { outcome = NotHeld; table = u }) e ∙ forget-missing c k (table-rules c .0 m .ascend) n
-
-  pub forgets-held : Here c k → record { outcome = Done; table = shutTable t at } ≡ forgottenAs k c
-  forgets-held h =
-      ap (λ (u : Table). record { outcome = Done; table = shutTable u at }) e
-      ∙ forget-held c k (table-rules c .0 m .short) h at (p ∙ place-at t c e k)
-
--- ---- by the answer of the table's own test
+-- a stored table is made of its sets
+pub table-of : (t : Table) → Stored t → tableOf (t .sets) ≡ t
+unfolding Stored
+table-of t s = ap (λ (u : Table). tableOf (u .sets)) (s .2) ∙ sym (s .2)
 
 pub given-wrong : {t : Table} {right : Content → Type 0} {otherwise : Type 0} {b : Bool} → Tested b (Stored t) → b ≡ false → otherwise → Given t right otherwise
 given-wrong w f o = notStored (λ s. false≢true (sym f ∙ w .complete s)) o
@@ -122,18 +57,104 @@ given-right w f r =
     let s = w .sound f in
     stored (s .0) (s .1) (s .2) (r (s .0) (s .1) (s .2))
 
-pub tested-short : (t : Table) {b : Bool} → Tested b (Stored t) → b ≡ true → t .count ≤ 32
-tested-short t w f = stored-facts t (w .sound f) .short
+-- what is owed of a stored table, said of its content
+pub given-content : {t : Table} {right : Content → Type 0} {otherwise : Type 0} (c : Content) → meets c ≡ true → t ≡ storeTable c
+    → Given t right otherwise → right c
+unfolding Stored
+given-content {right = right} c m s (stored d f p a) = subst right (store-content d c f m (sym p ∙ s)) a
+  where
+    store-content : (c d : Content) → meets c ≡ true → meets d ≡ true → storeTable c ≡ storeTable d → c ≡ d
+    store-content c d f g e = ap justSets (store-injective (c .sets) (d .sets) f g (ap (λ (u : Table). u .sets) e))
+given-content c m s (notStored n a) = absurd (n (c, m, s))
 
--- the shown list at a place of a stored table: how long it is, and its arrays
-pub record Roomy (l : IdList) : Type 0 where
-  pub short : l .len ≤ 128
-  pub numbers-long : length (l .numbers) ≡ 128
-  pub kinds-long : length (l .kinds) ≡ 128
+-- how many keys
+pub tested-short : (t : Table) {b : Bool} → Tested b (Stored t) → b ≡ true → t .sets .count ≤ 32
+tested-short t w f = stored-short (t .sets) (sets-stored t (w .sound f))
 
-pub tested-shown : (t : Table) {b : Bool} → Tested b (Stored t) → b ≡ true → (i : ℕ) → i < t .count → Roomy (getD (t .shown) i past)
-unfolding EachHolds
-tested-shown t w f i h =
-    let s = stored-facts t (w .sound f) in
-    let l = s .shown-hold i (omega (arith, s .short)) in
-    record { short = holds-facts _ _ l .short; numbers-long = holds-long _ _ l .0; kinds-long = holds-long _ _ l .1 }
+-- the place at which a key stands, and how long the set there is
+module _ (t : Table) {b : Bool} (w : Tested b (Stored t)) (f : b ≡ true) (at k : ℕ)
+    (s : (ltb at (t .sets .count) && eqb (getD (t .sets .keys) at 0) k) ≡ true) where
+  counted : at < t .sets .count
+  counted = ltb-true at (t .sets .count) (and-left (ltb at (t .sets .count)) _ s)
+
+  pub stands-short : at < 32
+  stands-short = omega (arith, counted, stored-short (t .sets) (sets-stored t (w .sound f)))
+
+  pub stands-shown : Roomy (getD (t .sets .shown) at past)
+  stands-shown = stored-shown (t .sets) (sets-stored t (w .sound f)) at counted
+
+-- ---- a key that is not held, and one that is
+
+module _ (t : Table) (c : Content) (m : meets c ≡ true) (e : t ≡ storeTable c) where
+  pub sets-are : t .sets ≡ storeSets (c .sets)
+  sets-are = ap (λ (u : Table). u .sets) e
+
+  module _ (k : ℕ) (n : Here (c .sets) k → ⊥) where
+    missing : find linkage k (c .sets) ≡ none
+    missing = find-not-here 0 (c .sets) k (table-rules (c .sets) .0 m .ascend) n
+
+    pub forgets-missing : record { outcome = NotHeld; table = t } ≡ forgottenAs k c
+    unfolding forgottenAs forgetOutcome heldOr forgotten
+    forgets-missing =
+        let l : t ≡ storeTable (forgotten k c) = e ∙ ap (λ (s : Entries). tableOf (storeSets s)) (sym (forget-not-here 0 (c .sets) k (table-rules (c .sets) .0 m .ascend) n)) in
+        let o : NotHeld ≡ heldOr (find linkage k (c .sets)) Done = sym (ap (λ (f : Option Held). heldOr f Done) missing) in
+        λ j. record { outcome = o j; table = l j }
+
+    pub copies-missing : (ns ks : List ℕ) → notCopied NotHeld ns ks ≡ copyOut k c ns ks
+    unfolding copyOut copyHeld
+    copies-missing ns ks = sym (ap (λ (f : Option Held). copyHeld f ns ks) missing)
+
+  module _ (k at : ℕ) (p : at ≡ placeIn (take (t .sets .count) (t .sets .keys)) k) (h : Here (c .sets) k) where
+    pub forgets-held : (left : Sets) → left ≡ shutSets (t .sets) at → (u : Table) → u ≡ tableOf left → record { outcome = Done; table = u } ≡ forgottenAs k c
+    unfolding forgottenAs forgetOutcome heldOr forgotten
+    forgets-held left q u r =
+        let l : u ≡ storeTable (forgotten k c) =
+        r ∙ ap tableOf (q ∙ store-forgets (t .sets) (c .sets) sets-are k at p (table-rules (c .sets) .0 m .short) h) in
+        let o : Done ≡ heldOr (find linkage k (c .sets)) Done = sym (ap (λ (f : Option Held). heldOr f Done) (find-here (c .sets) k h)) in
+        λ j. record { outcome = o j; table = l j }
+
+    i : ℕ
+    i = placeIn (map keyIn (c .sets)) k
+
+    held : Held
+    held = getD (c .sets) i noEntry
+
+    within : i < length (c .sets)
+    unfolding Here i
+    within = h .0
+
+    place : at ≡ i
+    unfolding i
+    place = p ∙ place-at (t .sets) (c .sets) sets-are k
+
+    set-is : getD (t .sets .shown) at past ≡ storeMaybe (held .shown)
+    unfolding storeSets shownIn held
+    set-is = ap₂ (λ (u : Sets) (j : ℕ). getD (u .shown) j past) sets-are place ∙ column-at shownIn emptyList past (c .sets) i within
+
+    on-is : getD (t .sets .on) at false ≡ held .state
+    unfolding storeSets onIn held
+    on-is = ap₂ (λ (u : Sets) (j : ℕ). getD (u .on) j false) sets-are place ∙ column-at onIn false false (c .sets) i within
+
+    key-is : held .key ≡ k
+    unfolding Here keyIn held i
+    key-is = sym (getD-map keyIn (c .sets) i 0 noEntry within) ∙ h .1
+
+    set-meets : ifThere (held .key) (held .shown) ≡ true
+    unfolding held
+    set-meets = entry-rules held .0 (entry-at (c .sets) (table-rules (c .sets) .0 m .entries) i within) .shown
+
+    pub copies-held : (ns ks : List ℕ) → copyStored (getD (t .sets .shown) at past) k (getD (t .sets .on) at false) ns ks ≡ copyOut k c ns ks
+    unfolding copyOut copyHeld held i
+    copies-held ns ks =
+        (λ j. copyStored (set-is j) (sym key-is j) (on-is j) ns ks)
+        ∙ copy-stored (held .key) held (held .shown) ns ks set-meets
+        ∙ sym (ap (λ (f : Option Held). copyHeld f ns ks) (find-here (c .sets) k h))
+
+-- ---- the answer where nothing is copied
+
+abbrev pub bare : Outcome → Copied
+bare o = record { outcome = o; key = 0; on = false; named = 0; count = 0 }
+
+pub not-copied-as : (r : Copied) (o : Outcome) (ns ks : List ℕ) → r ≡ bare o → copiedAs r ns ks ≡ notCopied o ns ks
+unfolding copiedAs notCopied
+not-copied-as r o ns ks e = ap (λ (x : Copied). copiedAs x ns ks) e

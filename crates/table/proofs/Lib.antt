@@ -1,8 +1,3 @@
-pub mod Loops
-pub mod TableLaws
-pub mod Shifts
-pub mod Entries
-pub mod GivenLaws
+-- The laws above the definitions of specs/.
 pub mod Copies
-pub mod CopyOut
-pub mod ShownLaws
+pub mod GivenLaws

@@ -1,4 +1,2 @@
 pub mod Stored
-pub mod Places
 pub mod Answers
-pub mod Shown

@@ -1,288 +1,51 @@
-// The table of linkage sets as it is stored (document 01, Collecting): its limits, its empty table, the
-// test of the table rules, finding, opening and forgetting a key, copying a set out, counting the sets.
-// Every function is proved and none that is `pub` has a `requires`. The stored form is storeTable of
-// specs/Stored.antt; what a content may hold is `meets` of crate rules.
+// The table of linkage sets (document 01, Collecting): its limits, its empty table, the test of the table rules, forgetting a key
+// and copying a set out. Every function is proved and none that is `pub` has a `requires`. The stored form is storeTable of
+// specs/Stored.antt; what a table may hold is `meets` of crate rules.
 
 ghost use mathlib.Core.Path.{_≡_};
-ghost use mathlib.Core.Bool.{Bool, cond};
-ghost use mathlib.Core.List.{[]};
-ghost use lib.ListN.{length, take, drop};
-ghost use lib.Dec.{ltb};
-ghost use Prim.Native.Nat.{_<_, _≤_};
-ghost use mathlib.Core.Bool.{false};
-ghost use Rattle.lists.specs.Stored.{Tested, emptyList};
-ghost use Rattle.table.specs.Stored.{storeTable, EachHolds, NoneFrom, Stored, Given, openedTable};
-ghost use Rattle.table.specs.Answers.{forgottenAs, copiedAs};
+ghost use mathlib.Core.Bool.{Bool};
+ghost use lib.ListN.{length, take};
+ghost use Prim.Native.Nat.{_≤_};
+ghost use Rattle.rules.specs.Collecting.{nothing};
 ghost use Rattle.rules.specs.Outcomes.{copyOut, notCopied, overwritten};
-ghost use Rattle.table.specs.Places.{placeIn, keysMeet, allOff, opened, shut};
-ghost use Rattle.table.specs.Shown.{setsIn};
+ghost use Rattle.lists.specs.Stored.{Tested};
+ghost use Rattle.table.specs.Stored.{tableOf, storeTable, Stored, Given};
+ghost use Rattle.table.specs.Answers.{forgottenAs, copiedAs, copyStored};
 use lists::IdList;
 use rules::Outcome;
+use sets::Sets;
 
-// The entries of the held keys, in ascending key order from place 0 on: key, on or off, shown set and
-// open list. Every unused place is zero.
+// What a table holds: its sets.
 pub struct Table {
-    pub count: usize,
-    pub keys: [u32; Table::KEYS],
-    pub on: [bool; Table::KEYS],
-    pub shown: [IdList; Table::KEYS],
-    pub draft: [IdList; Table::KEYS],
+    pub sets: Sets,
 }
 
 impl Table {
     // The keys that a table holds at most.
-    pub const KEYS: usize = 32;
+    pub const KEYS: usize = Sets::KEYS;
     // The identifiers that a set holds at most.
     pub const IDENTIFIERS: usize = IdList::MOST;
 
+    // The table with these sets and nothing else.
+    pub fn of(sets: Sets) -> Self
+        ensures { λ r. ⌜ r ≡ tableOf sets ⌝ }
+    {
+        Self { sets }
+    }
+
     // The table that holds nothing.
     pub fn empty() -> Self
-        ensures { λ r. ⌜ r ≡ storeTable [] ⌝ }
+        ensures { λ r. ⌜ r ≡ storeTable nothing ⌝ }
     {
-        let none = IdList::empty();
-        Self {
-            count: 0,
-            keys: [0u32; Table::KEYS],
-            on: [false; Table::KEYS],
-            shown: [none; Table::KEYS],
-            draft: [none; Table::KEYS],
-        }
+        Self::of(Sets::empty())
     }
-}
 
-// ---- the test of the table rules
-
-// Whether keys ascend, lie below 65,536 and have LSN not 0, among the first `count`.
-fn keys_meet(keys: &[u32], count: usize) -> bool
-    ensures { λ r. ⌜ r ≡ keysMeet 0 (take count (now (keys .entry))) ⌝ }
-{
-    let end = lists::least(count, keys.len());
-    let mut last = 0u32;
-    let mut i = 0;
-    while i < end {
-        let key = keys[i];
-        if key <= last {
-            return false;
-        }
-        if 65536 <= key {
-            return false;
-        }
-        if key % 4096 == 0 {
-            return false;
-        }
-        last = key;
-        i += 1;
-    }
-    true
-}
-
-// Whether every flag from a place on is off.
-fn all_off(on: &[bool], from: usize) -> bool
-    ensures { λ r. ⌜ r ≡ allOff (drop from (now (on .entry))) ⌝ }
-{
-    let mut i = from;
-    while i < on.len() {
-        if on[i] {
-            return false;
-        }
-        i += 1;
-    }
-    true
-}
-
-// Whether each list is the stored form of one that meets the rules for its key, or of none.
-fn lists_meet(keys: [u32; Table::KEYS], lists: [IdList; Table::KEYS]) -> bool
-    ensures { λ r. ⌜ Tested r (EachHolds keys lists) ⌝ }
-{
-    let mut i = 0;
-    while i < Table::KEYS {
-        let list = lists[i];
-        if !list.meets(keys[i]) {
-            return false;
-        }
-        i += 1;
-    }
-    true
-}
-
-// Whether there is no list from a place on.
-fn none_from(from: usize, lists: [IdList; Table::KEYS]) -> bool
-    ensures { λ r. ⌜ Tested r (NoneFrom from lists) ⌝ }
-{
-    let mut i = from;
-    while i < Table::KEYS {
-        let list = lists[i];
-        if list.len != 0 {
-            return false;
-        }
-        i += 1;
-    }
-    true
-}
-
-impl Table {
     // Whether this is the stored form of a content that meets the table rules.
     pub fn meets(self) -> bool
         ensures { λ r. ⌜ Tested r (Stored self) ⌝ }
     {
-        let count = self.count;
-        if Self::KEYS < count {
-            return false;
-        }
-        if !keys_meet(&self.keys, count) {
-            return false;
-        }
-        if !lists::zeros_u32(&self.keys, count) {
-            return false;
-        }
-        if !all_off(&self.on, count) {
-            return false;
-        }
-        let keys = self.keys;
-        let shown = self.shown;
-        let draft = self.draft;
-        if !lists_meet(keys, shown) {
-            return false;
-        }
-        if !none_from(count, shown) {
-            return false;
-        }
-        if !lists_meet(keys, draft) {
-            return false;
-        }
-        none_from(count, draft)
-    }
-}
-
-// ---- a key's place
-
-// The first place among the first `count` whose key is not smaller than this one.
-pub fn place_of(keys: &[u32], count: usize, key: u32) -> usize
-    ensures { λ r. ⌜ r ≡ placeIn (take count (now (keys .entry))) key ⌝ }
-{
-    let end = lists::least(count, keys.len());
-    let mut i = 0;
-    while i < end {
-        if key <= keys[i] {
-            return i;
-        }
-        i += 1;
-    }
-    i
-}
-
-// ---- an array with one value more or one less; of each, one for every type of value
-
-fn open_u32(xs: [u32; Table::KEYS], at: usize, v: u32) -> [u32; Table::KEYS]
-    requires { ⌜ at < 32 ⌝ }
-    ensures { λ r. ⌜ r ≡ opened at v xs ⌝ }
-{
-    let mut ys = xs;
-    let mut j = at + 1;
-    while j < Table::KEYS {
-        ys[j] = xs[j - 1];
-        j += 1;
-    }
-    ys[at] = v;
-    ys
-}
-
-fn open_flag(xs: [bool; Table::KEYS], at: usize, v: bool) -> [bool; Table::KEYS]
-    requires { ⌜ at < 32 ⌝ }
-    ensures { λ r. ⌜ r ≡ opened at v xs ⌝ }
-{
-    let mut ys = xs;
-    let mut j = at + 1;
-    while j < Table::KEYS {
-        ys[j] = xs[j - 1];
-        j += 1;
-    }
-    ys[at] = v;
-    ys
-}
-
-fn open_list(xs: [IdList; Table::KEYS], at: usize, v: IdList) -> [IdList; Table::KEYS]
-    requires { ⌜ at < 32 ⌝ }
-    ensures { λ r. ⌜ r ≡ opened at v xs ⌝ }
-{
-    let mut ys = xs;
-    let mut j = at + 1;
-    while j < Table::KEYS {
-        let x = xs[j - 1];
-        ys[j] = x;
-        j += 1;
-    }
-    ys[at] = v;
-    ys
-}
-
-fn shut_u32(xs: [u32; Table::KEYS], at: usize) -> [u32; Table::KEYS]
-    requires { ⌜ at < 32 ⌝ }
-    ensures { λ r. ⌜ r ≡ shut at 0 xs ⌝ }
-{
-    let mut ys = xs;
-    let mut j = at;
-    while j < 31 {
-        ys[j] = xs[j + 1];
-        j += 1;
-    }
-    ys[31] = 0;
-    ys
-}
-
-fn shut_flag(xs: [bool; Table::KEYS], at: usize) -> [bool; Table::KEYS]
-    requires { ⌜ at < 32 ⌝ }
-    ensures { λ r. ⌜ r ≡ shut at false xs ⌝ }
-{
-    let mut ys = xs;
-    let mut j = at;
-    while j < 31 {
-        ys[j] = xs[j + 1];
-        j += 1;
-    }
-    ys[31] = false;
-    ys
-}
-
-fn shut_list(xs: [IdList; Table::KEYS], at: usize) -> [IdList; Table::KEYS]
-    requires { ⌜ at < 32 ⌝ }
-    ensures { λ r. ⌜ r ≡ shut at emptyList xs ⌝ }
-{
-    let mut ys = xs;
-    let mut j = at;
-    while j < 31 {
-        let x = xs[j + 1];
-        ys[j] = x;
-        j += 1;
-    }
-    ys[31] = IdList::empty();
-    ys
-}
-
-impl Table {
-    // With one key more at a place, its list open and no set shown; the same table where there is no
-    // such place. The caller gives the place that keeps the keys ascending.
-    pub fn opened_at(self, at: usize, key: u32, on: bool, list: IdList) -> Self
-        ensures { λ r. ⌜ r ≡ openedTable self at key on list ⌝ }
-    {
-        let count = self.count;
-        if Self::KEYS <= at {
-            return self;
-        }
-        if Self::KEYS <= count {
-            return self;
-        }
-        let keys = self.keys;
-        let flags = self.on;
-        let shown = self.shown;
-        let draft = self.draft;
-        Self {
-            count: count + 1,
-            keys: open_u32(keys, at, key),
-            on: open_flag(flags, at, on),
-            shown: open_list(shown, at, IdList::empty()),
-            draft: open_list(draft, at, list),
-        }
+        let sets = self.sets;
+        sets.meets()
     }
 }
 
@@ -304,34 +67,19 @@ pub fn forget_key(table: Table, key: u32) -> Forgotten
             table,
         };
     }
-    let count = table.count;
-    let at = place_of(&table.keys, count, key);
-    if count <= at {
+    let sets = table.sets;
+    let count = sets.count;
+    let at = sets::place_of(&sets.keys, count, key);
+    if !sets::stands_at(&sets.keys, count, at, key) {
         return Forgotten {
             outcome: Outcome::NotHeld,
             table,
         };
     }
-    if table.keys[at] != key {
-        return Forgotten {
-            outcome: Outcome::NotHeld,
-            table,
-        };
-    }
-    let keys = table.keys;
-    let flags = table.on;
-    let shown = table.shown;
-    let draft = table.draft;
-    let left = Table {
-        count: count - 1,
-        keys: shut_u32(keys, at),
-        on: shut_flag(flags, at),
-        shown: shut_list(shown, at),
-        draft: shut_list(draft, at),
-    };
+    let left = sets.shut_at(at);
     Forgotten {
         outcome: Outcome::Done,
-        table: left,
+        table: Table::of(left),
     }
 }
 
@@ -383,25 +131,11 @@ fn not_copied(outcome: Outcome) -> Copied
     }
 }
 
-// Copies a shown set out: its key, on or off, named kinds and count, the numbers and the kinds of its
-// identifiers to the front of two lent buffers. 9, then 7, 11 and 8 (either buffer), with both as they were.
-pub fn copy_out(table: Table, key: u32, numbers: &mut [u32], kinds: &mut [u8]) -> Copied
-    ensures { λ r. ⌜ Given table
-        (λ c. copiedAs r (now (numbers .exit)) (now (kinds .exit)) ≡ copyOut key c (now (numbers .entry)) (now (kinds .entry)))
-        (copiedAs r (now (numbers .exit)) (now (kinds .exit)) ≡ notCopied Outcome.WrongTable (now (numbers .entry)) (now (kinds .entry))) ⌝ }
+// Copies a set out, where there is one: 11 and 8 (either buffer), with both as they were.
+fn copy_set(set: IdList, key: u32, on: bool, numbers: &mut [u32], kinds: &mut [u8]) -> Copied
+    requires { ⌜ (set .len ≤ length (set .numbers)) × (set .len ≤ length (set .kinds)) ⌝ }
+    ensures { λ r. ⌜ copiedAs r (now (numbers .exit)) (now (kinds .exit)) ≡ copyStored set key on (now (numbers .entry)) (now (kinds .entry)) ⌝ }
 {
-    if !table.meets() {
-        return not_copied(Outcome::WrongTable);
-    }
-    let count = table.count;
-    let at = place_of(&table.keys, count, key);
-    if count <= at {
-        return not_copied(Outcome::NotHeld);
-    }
-    if table.keys[at] != key {
-        return not_copied(Outcome::NotHeld);
-    }
-    let set = table.shown[at];
     let len = set.len;
     if len == 0 {
         return not_copied(Outcome::NotShown);
@@ -417,30 +151,28 @@ pub fn copy_out(table: Table, key: u32, numbers: &mut [u32], kinds: &mut [u8]) -
     Copied {
         outcome: Outcome::Done,
         key,
-        on: table.on[at],
+        on,
         named: set.named,
         count: len,
     }
 }
 
-// ---- counting
-
-impl Table {
-    // How many sets are shown: of all entries, of which there are 32 at most, those whose list is not
-    // empty.
-    pub fn shown_count(self) -> usize
-        ensures { λ r. ⌜ r ≡ length (setsIn self) ⌝ }
-    {
-        let end = lists::least(self.count, Self::KEYS);
-        let mut n = 0;
-        let mut k = 0;
-        while k < end {
-            let shown = self.shown[k];
-            if shown.len != 0 {
-                n += 1;
-            }
-            k += 1;
-        }
-        n
+// Copies a shown set out: its key, on or off, named kinds and count, the numbers and the kinds of its
+// identifiers to the front of two lent buffers. 9, then 7, 11 and 8 (either buffer), with both as they were.
+pub fn copy_out(table: Table, key: u32, numbers: &mut [u32], kinds: &mut [u8]) -> Copied
+    ensures { λ r. ⌜ Given table
+        (λ c. copiedAs r (now (numbers .exit)) (now (kinds .exit)) ≡ copyOut key c (now (numbers .entry)) (now (kinds .entry)))
+        (copiedAs r (now (numbers .exit)) (now (kinds .exit)) ≡ notCopied Outcome.WrongTable (now (numbers .entry)) (now (kinds .entry))) ⌝ }
+{
+    if !table.meets() {
+        return not_copied(Outcome::WrongTable);
     }
+    let sets = table.sets;
+    let count = sets.count;
+    let at = sets::place_of(&sets.keys, count, key);
+    if !sets::stands_at(&sets.keys, count, at, key) {
+        return not_copied(Outcome::NotHeld);
+    }
+    let set = sets.shown[at];
+    copy_set(set, key, sets.on[at], numbers, kinds)
 }

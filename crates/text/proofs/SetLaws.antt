@@ -7,26 +7,26 @@ use mathlib.Core.Bool.{true}
 use mathlib.Core.List.{List, _++_}
 use lib.ListN.{length, getD, length-append}
 use Rattle.rules.specs.Collecting.{Content, meets, Shown}
-use Rattle.rules.specs.Listing.{lineOf, linesOf, tailText, listing}
-use Rattle.table.specs.declared.Table.{Table}
-use Rattle.table.specs.Stored.{storeTable, past}
-use Rattle.table.specs.Shown.{setsFrom, setsIn}
-use Rattle.table.proofs.ShownLaws.{shownAt, sets-next, sets-stored}
+use Rattle.text.specs.Listing.{lineOf, linesOf, tailText, listing}
+use Rattle.sets.specs.declared.Sets.{Sets}
+use Rattle.sets.specs.Stored.{storeSets, past}
+use Rattle.sets.specs.Shown.{setsFrom, setsIn}
+use Rattle.sets.proofs.ShownLaws.{shownAt, sets-next, sets-stored}
 use Rattle.text.specs.Lines.{setsText}
 use Rattle.text.proofs.Texts.{listing-parts}
 
-pub lines-next : (t : Table) (i n : ℕ) → i < n → (getD (t .shown) i past .len ≡ 0 → ⊥)
+pub lines-next : (t : Sets) (i n : ℕ) → i < n → (getD (t .shown) i past .len ≡ 0 → ⊥)
     → linesOf (setsFrom t i (n - i)) ≡ lineOf (shownAt t i) ++ linesOf (setsFrom t (i + 1) (n - (i + 1)))
 unfolding linesOf
 lines-next t i n h z = ap linesOf (sets-next t i n h z)
 
 -- ---- the listing of a stored table, by the sets in its arrays
 
-module _ (t : Table) (c : Content) (m : meets c ≡ true) (e : t ≡ storeTable c) (over n : ℕ) (count : n ≡ length (setsIn t)) where
+module _ (t : Sets) (c : Content) (m : meets c ≡ true) (e : t ≡ storeSets (c .sets)) (over n : ℕ) (count : n ≡ length (setsIn t)) where
   pub listing-of : setsText n ++ linesOf (setsIn t) ++ tailText over ≡ listing c over
   listing-of =
       ap (λ (k : ℕ). setsText k ++ linesOf (setsIn t) ++ tailText over) count
-      ∙ ap (λ (ss : List Shown). setsText (length ss) ++ linesOf ss ++ tailText over) (ap setsIn e ∙ sets-stored c m)
+      ∙ ap (λ (ss : List Shown). setsText (length ss) ++ linesOf ss ++ tailText over) (ap setsIn e ∙ sets-stored (c .sets) m)
       ∙ sym (listing-parts c over)
 
   pub listing-size : {first lines last : ℕ} → first ≡ length (setsText n) → lines ≡ length (linesOf (setsIn t)) → last ≡ length (tailText over)

@@ -9,11 +9,12 @@ use lib.ListN.{length, length-append}
 use lib.Dec.{eqb}
 use Rattle.rules.specs.Field.{Pair, rds, drm}
 use Rattle.rules.specs.Collecting.{Content, shownSets, keyWidth}
-use Rattle.rules.specs.Listing.{decimal, pairText, pairsText, deadText, stateText, idsText, lineOf, linesOf, tailText, listing}
+use Rattle.out.specs.Text.{decimal}
+use Rattle.text.specs.Listing.{stateText, pairText, pairsText, deadText, idsText, lineOf, linesOf, tailText, listing}
 use Rattle.lists.specs.declared.IdList.{IdList}
 use Rattle.lists.specs.Stored.{pairsIn}
 use Rattle.out.proofs.Digits.{length-hex}
-use Rattle.table.specs.Shown.{setIn, shownAs}
+use Rattle.sets.specs.Shown.{setIn, shownAs}
 use Rattle.text.specs.Lines.{setsText}
 
 -- ---- how long the texts are
@@ -41,6 +42,6 @@ module _ (key : ℕ) (on : Bool) (list : IdList) where
 
 -- ---- the listing by its parts
 
-pub listing-parts : (t : Content) (over : ℕ) → listing t over ≡ setsText (length (shownSets t)) ++ linesOf (shownSets t) ++ tailText over
+pub listing-parts : (t : Content) (over : ℕ) → listing t over ≡ setsText (length (shownSets (t .sets))) ++ linesOf (shownSets (t .sets)) ++ tailText over
 unfolding listing setsText
 listing-parts t over = refl

@@ -1,7 +1,7 @@
 -- The first line of a listing by itself.
 use Prim.Native.Nat.{ℕ}
 use mathlib.Core.List.{List, [], _∷_, _++_}
-use Rattle.rules.specs.Listing.{decimal}
+use Rattle.out.specs.Text.{decimal}
 
 -- `sets` and how many
 unfoldable pub setsText : ℕ → List ℕ

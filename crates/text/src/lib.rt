@@ -14,6 +14,7 @@ use out::put_bytes;
 use out::put_decimal;
 use out::put_hex;
 use rules::Outcome;
+use sets::Sets;
 use table::Table;
 ghost use mathlib.Core.Path.{_≡_};
 ghost use mathlib.Core.List.{[], _∷_, _++_};
@@ -21,13 +22,12 @@ ghost use Prim.Native.Nat.{_+_, _*_, _≤_};
 ghost use lib.ListN.{length};
 ghost use Rattle.rules.specs.Field.{pair};
 ghost use Rattle.rules.specs.Collecting.{keyWidth};
-ghost use Rattle.rules.specs.Air.{writtenTo};
-ghost use Rattle.rules.specs.Listing.{hexText, decimal, kindLetter, pairText, pairsText, deadText, stateText, idsText, lineOf, linesOf, tailText, listing};
+ghost use Rattle.out.specs.Text.{hexText, decimal};
+ghost use Rattle.text.specs.Listing.{stateText, kindLetter, pairText, pairsText, deadText, idsText, lineOf, linesOf, tailText, listing};
 ghost use Rattle.lists.specs.Stored.{pairsIn};
 ghost use Rattle.out.specs.Put.{Puts};
-ghost use Rattle.out.specs.Answer.{writtenAs};
-ghost use Rattle.table.specs.Stored.{Given};
-ghost use Rattle.table.specs.Shown.{shownAs, setsIn};
+ghost use Rattle.out.specs.Answer.{Outputs};
+ghost use Rattle.sets.specs.Shown.{shownAs, setsIn};
 ghost use Rattle.text.specs.Lines.{setsText};
 
 // ---- the parts of a set's line
@@ -224,34 +224,34 @@ fn put_tail(out: &mut [u8], at: usize, over: usize) -> usize
 
 // ---- the whole listing
 
-// The size of the lines of the sets of a table.
-fn lines_size(table: Table) -> usize
-    requires { ⌜ table .count ≤ 32 ⌝ }
-    ensures { λ r. ⌜ (r ≡ length (linesOf (setsIn table))) × (r ≤ 42240) ⌝ }
+// The size of the lines of the sets of a sets.
+fn lines_size(sets: Sets) -> usize
+    requires { ⌜ sets .count ≤ 32 ⌝ }
+    ensures { λ r. ⌜ (r ≡ length (linesOf (setsIn sets))) × (r ≤ 42240) ⌝ }
 {
     let mut size = 0;
     let mut i = 0;
-    while i < table.count {
-        let list = table.shown[i];
+    while i < sets.count {
+        let list = sets.shown[i];
         if list.len != 0 {
-            size += line_size(table.keys[i], table.on[i], list);
+            size += line_size(sets.keys[i], sets.on[i], list);
         }
         i += 1;
     }
     size
 }
 
-// The lines of its sets at a place.
-fn put_lines(out: &mut [u8], at: usize, table: Table) -> usize
-    requires { ⌜ table .count ≤ 32 ⌝ }
-    ensures { λ r. ⌜ Puts (now (out .entry)) at (linesOf (setsIn table)) (now (out .exit)) r ⌝ }
+// The lines of the sets at a place.
+fn put_lines(out: &mut [u8], at: usize, sets: Sets) -> usize
+    requires { ⌜ sets .count ≤ 32 ⌝ }
+    ensures { λ r. ⌜ Puts (now (out .entry)) at (linesOf (setsIn sets)) (now (out .exit)) r ⌝ }
 {
     let mut p = cut_to(at, out.len());
     let mut k = 0;
-    while k < table.count {
-        let set = table.shown[k];
+    while k < sets.count {
+        let set = sets.shown[k];
         if set.len != 0 {
-            p = put_line(out, p, table.keys[k], table.on[k], set);
+            p = put_line(out, p, sets.keys[k], sets.on[k], set);
         }
         k += 1;
     }
@@ -261,9 +261,7 @@ fn put_lines(out: &mut [u8], at: usize, table: Table) -> usize
 // The listing of a table, with this many bytes left over, at the front of a buffer: 9, then 8, each
 // with the buffer as it was.
 pub fn write_listing(table: Table, over: usize, out: &mut [u8]) -> Written
-    ensures { λ r. ⌜ Given table
-        (λ c. writtenAs r (now (out .exit)) ≡ writtenTo (listing c over) (now (out .entry)))
-        (writtenAs r (now (out .exit)) ≡ record { outcome = Outcome.WrongTable; size = 0; buffer = now (out .entry) }) ⌝ }
+    ensures { λ r. ⌜ Outputs (λ c. listing c over) table (now (out .entry)) r (now (out .exit)) ⌝ }
 {
     if !table.meets() {
         return Written {
@@ -271,16 +269,17 @@ pub fn write_listing(table: Table, over: usize, out: &mut [u8]) -> Written
             size: 0,
         };
     }
-    let sets = table.shown_count();
-    let size = first_size(sets) + lines_size(table) + tail_size(over);
+    let sets = table.sets;
+    let count = sets.shown_count();
+    let size = first_size(count) + lines_size(sets) + tail_size(over);
     if out.len() < size {
         return Written {
             outcome: Outcome::ShortBuffer,
             size: 0,
         };
     }
-    let p = put_first(out, 0, sets);
-    let q = put_lines(out, p, table);
+    let p = put_first(out, 0, count);
+    let q = put_lines(out, p, sets);
     let end = put_tail(out, q, over);
     Written {
         outcome: Outcome::Done,

@@ -5,11 +5,11 @@ use mathlib.Core.Path.{_≡_, ap}
 use mathlib.Core.Bool.{false}
 use lib.ListN.{length, length-append, getD}
 use borrow.Author.Needs.{needs}
-use Rattle.rules.specs.Air.{setBlocks, allBlocks}
+use Rattle.pieces.specs.Air.{setBlocks, allBlocks}
 use Rattle.lists.proofs.StoredLaws.{holds-facts}
-use Rattle.table.specs.Stored.{EachHolds, past}
-use Rattle.table.specs.Shown.{setsFrom}
-use Rattle.table.proofs.ShownLaws.{shownAt}
+use Rattle.sets.specs.Stored.{EachHolds, past}
+use Rattle.sets.specs.Shown.{setsFrom}
+use Rattle.sets.proofs.ShownLaws.{shownAt}
 use Rattle.air.proofs.Output.{set-size, blocks-next, blocks-end, blocks-all}
 use Rattle.air.proofs.count_all.Statement.{statement}
 use Rattle.air.proofs.count_all.Tie as tie

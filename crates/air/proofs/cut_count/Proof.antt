@@ -5,8 +5,8 @@ use mathlib.Core.Path.{_≡_, ap}
 use lib.ListN.{length}
 use borrow.Author.Needs.{needs}
 use Rattle.rules.specs.Collecting.{keyWidth}
-use Rattle.rules.specs.Air.{pieceMost, cut}
-use Rattle.table.specs.Shown.{setIn}
+use Rattle.pieces.specs.Air.{pieceMost, cut}
+use Rattle.sets.specs.Shown.{setIn}
 use Rattle.air.proofs.Ranges.{left}
 use Rattle.air.proofs.Sets.{Turn, left-none, part-turn}
 use Rattle.air.proofs.cut_count.Statement.{statement}

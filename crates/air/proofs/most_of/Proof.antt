@@ -1,6 +1,6 @@
 -- `air::most_of` meets its contract.
 use borrow.Author.Tests.{eq-eqb, ne-eqb}
-use Rattle.rules.specs.Air.{pieceMost}
+use Rattle.pieces.specs.Air.{pieceMost}
 use borrow.Author.Needs.{needs}
 use Rattle.air.proofs.most_of.Statement.{statement}
 use Rattle.air.proofs.most_of.Tie as tie

@@ -3,7 +3,7 @@ use native.Mathlib.Omega.{arith}
 use mathlib.Core.Path.{ap, _∙_}
 use Prim.Native.Nat.{ℕ, _+_, min}
 use Rattle.rules.specs.Collecting.{keyWidth}
-use Rattle.rules.proofs.AirPieces.{most-room, most-small}
+use Rattle.pieces.proofs.Cutting.{most-room, most-small}
 use Rattle.air.proofs.Ranges.{range-made}
 use borrow.Author.Needs.{needs}
 use Rattle.air.proofs.part_at.Statement.{statement}

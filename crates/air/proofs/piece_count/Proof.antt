@@ -2,9 +2,9 @@
 use native.Mathlib.Omega.{arith}
 use mathlib.Core.Path.{ap, _∙_}
 use Rattle.rules.specs.Block.{bit}
-use Rattle.rules.specs.Air.{pieceMost}
+use Rattle.pieces.specs.Air.{pieceMost}
 use Rattle.rules.specs.Collecting.{keyWidth}
-use Rattle.table.specs.Shown.{setIn}
+use Rattle.sets.specs.Shown.{setIn}
 use Rattle.air.proofs.Sets.{pieces-length}
 use borrow.Author.Needs.{needs}
 use Rattle.air.proofs.piece_count.Statement.{statement}

@@ -3,9 +3,9 @@ use Prim.Native.Nat.{_-_}
 use native.Mathlib.Omega.{arith}
 use mathlib.Core.Path.{sym, subst}
 use borrow.Author.Needs.{needs}
-use Rattle.rules.specs.Air.{allBlocks}
-use Rattle.table.specs.Stored.{EachHolds}
-use Rattle.table.specs.Shown.{setsFrom}
+use Rattle.pieces.specs.Air.{allBlocks}
+use Rattle.sets.specs.Stored.{EachHolds}
+use Rattle.sets.specs.Shown.{setsFrom}
 use Rattle.out.proofs.Runs.{Going, going-start, going-on, going-end}
 use Rattle.air.proofs.Output.{blocks-next, blocks-end, blocks-all}
 use Rattle.air.proofs.put_all.Statement.{statement}

@@ -5,10 +5,10 @@ use mathlib.Core.Path.{_≡_, sym, ap, subst}
 use lib.ListN.{length}
 use borrow.Author.Needs.{needs}
 use Rattle.rules.specs.Collecting.{keyWidth}
-use Rattle.rules.specs.Air.{pieceMost, cut, blocksOf}
+use Rattle.pieces.specs.Air.{pieceMost, cut, blocksOf}
 use Rattle.lists.proofs.StoredLaws.{holds-facts}
 use Rattle.out.proofs.Runs.{Going, going-start, going-on, going-end}
-use Rattle.table.specs.Shown.{setIn}
+use Rattle.sets.specs.Shown.{setIn}
 use Rattle.air.specs.Parts.{Fitting}
 use Rattle.air.proofs.Ranges.{left}
 use Rattle.air.proofs.Sets.{Turn, left-none, part-turn, part-fits}

@@ -4,8 +4,8 @@ use mathlib.Core.Path.{_≡_, sym, ap, _∙_}
 use mathlib.Core.List.{append-nil}
 use lib.ListN.{length}
 use borrow.Author.Needs.{needs}
-use Rattle.rules.specs.Air.{Piece, blocksOf, blockOf, figBytes}
-use Rattle.table.specs.Shown.{setIn}
+use Rattle.pieces.specs.Air.{Piece, blocksOf, blockOf, figBytes}
+use Rattle.sets.specs.Shown.{setIn}
 use Rattle.out.proofs.Runs.{puts-none, puts-as}
 use Rattle.air.proofs.Sets.{dead-piece, dead-there, dead-none}
 use Rattle.air.proofs.put_dead.Statement.{statement}

@@ -3,9 +3,9 @@ use Prim.Native.Nat.{_-_, _*_, _≤_}
 use native.Mathlib.Omega.{arith}
 use mathlib.Core.Path.{refl}
 use Rattle.rules.specs.Collecting.{keyWidth}
-use Rattle.rules.proofs.AirPieces.{most-small}
+use Rattle.pieces.proofs.Cutting.{most-small}
 use Rattle.out.proofs.Runs.{puts-then, puts-as}
-use Rattle.rules.proofs.AirBlock.{ids-few}
+use Rattle.pieces.proofs.BlockBack.{ids-few}
 use Rattle.rules.proofs.TableRules.{width-most}
 use Rattle.air.proofs.Blocks.{fig-made}
 use borrow.Author.Needs.{needs}

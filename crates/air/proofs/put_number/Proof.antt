@@ -4,7 +4,7 @@ use native.Mathlib.Omega.{arith}
 use mathlib.Core.Path.{_≡_, sym, ap, _∙_}
 use mathlib.Core.List.{_∷_}
 use borrow.Author.Needs.{needs}
-use Rattle.rules.specs.Air.{bigBytes}
+use Rattle.pieces.specs.Air.{bigBytes}
 use Rattle.out.proofs.Runs.{Going, going-start, going-on, going-end}
 use Rattle.air.proofs.put_number.Statement.{statement}
 use Rattle.air.proofs.put_number.Tie as tie

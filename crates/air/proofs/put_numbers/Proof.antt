@@ -5,7 +5,7 @@ use native.Mathlib.Omega.{arith}
 use mathlib.Core.Path.{_≡_, ap, _∙_}
 use lib.Seq.{slice, slice-cons, slice-empty}
 use borrow.Author.Needs.{needs}
-use Rattle.rules.specs.Air.{allBytes}
+use Rattle.pieces.specs.Air.{allBytes}
 use Rattle.out.proofs.Runs.{Going, going-start, going-on, going-end}
 use Rattle.air.proofs.put_numbers.Statement.{statement}
 use Rattle.air.proofs.put_numbers.Tie as tie

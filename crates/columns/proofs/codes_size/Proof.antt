@@ -6,7 +6,7 @@ use mathlib.Core.Path.{_≡_, ap, _∙_}
 use mathlib.Core.Bool.{cond}
 use lib.ListN.{length}
 use Rattle.rules.specs.Collecting.{keyWidth}
-use Rattle.rules.specs.Listing.{stateText}
+use Rattle.text.specs.Listing.{stateText}
 use Rattle.rules.proofs.TableRules.{width-most}
 use Rattle.columns.proofs.codes_size.Statement.{statement}
 use Rattle.columns.proofs.codes_size.Tie as tie

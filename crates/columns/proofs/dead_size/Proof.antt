@@ -4,7 +4,7 @@ use native.Mathlib.Omega.{arith}
 use mathlib.Core.Path.{_≡_, sym, ap, _∙_}
 use mathlib.Core.Bool.{cond}
 use lib.ListN.{length}
-use Rattle.rules.specs.Listing.{stateText}
+use Rattle.text.specs.Listing.{stateText}
 use borrow.Author.Needs.{needs}
 use Rattle.columns.proofs.dead_size.Statement.{statement}
 use Rattle.columns.proofs.dead_size.Tie as tie

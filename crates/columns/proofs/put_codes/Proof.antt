@@ -6,7 +6,7 @@ use lib.ListN.{length, drop}
 use Rattle.rules.specs.Field.{pair}
 use Rattle.lists.specs.Stored.{pairsIn}
 use Rattle.out.proofs.Runs.{Going, going-start, going-on, going-end}
-use Rattle.table.specs.Shown.{shownAs}
+use Rattle.sets.specs.Shown.{shownAs}
 use Rattle.lists.proofs.KindLaws.{pairs-here, pairs-end}
 use Rattle.columns.specs.Columns.{codeRows, rowsText}
 use Rattle.columns.specs.Cells.{cellOf}

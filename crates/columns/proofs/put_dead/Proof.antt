@@ -2,7 +2,7 @@
 use mathlib.Core.Path.{sym, _∙_}
 use mathlib.Core.List.{append-nil}
 use Rattle.out.proofs.Runs.{puts-none, puts-as}
-use Rattle.table.specs.Shown.{setIn, shownAs}
+use Rattle.sets.specs.Shown.{setIn, shownAs}
 use Rattle.columns.specs.Columns.{deadRows, rowsText}
 use Rattle.columns.specs.Cells.{cellOf}
 use borrow.Author.Needs.{needs}

@@ -1,6 +1,6 @@
 -- `columns::put_set` meets its contract: its parts one after another.
 use Rattle.out.proofs.Runs.{puts-as, puts-then}
-use Rattle.table.specs.Shown.{setIn, shownAs}
+use Rattle.sets.specs.Shown.{setIn, shownAs}
 use Rattle.columns.proofs.Lines.{set-parts}
 use borrow.Author.Needs.{needs}
 use Rattle.columns.proofs.put_set.Statement.{statement}

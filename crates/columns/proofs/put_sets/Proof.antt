@@ -4,8 +4,8 @@ use native.Mathlib.Omega.{arith}
 use mathlib.Core.Path.{refl, sym, ap, subst}
 use mathlib.Core.Logic.{⊎-elim}
 use Rattle.out.proofs.Runs.{Going, going-start, going-on, going-as, going-end}
-use Rattle.table.specs.Shown.{setsFrom, setsIn}
-use Rattle.table.proofs.ShownLaws.{sets-skip, sets-end, sets-all}
+use Rattle.sets.specs.Shown.{setsFrom, setsIn}
+use Rattle.sets.proofs.ShownLaws.{sets-skip, sets-end, sets-all}
 use Rattle.columns.specs.Columns.{setsText}
 use Rattle.columns.proofs.Whole.{text-next}
 use borrow.Author.Needs.{needs}

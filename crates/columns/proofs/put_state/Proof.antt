@@ -1,5 +1,5 @@
 -- `columns::put_state` meets its contract: the word of each state, and the blanks after it.
-use Rattle.rules.specs.Listing.{stateText}
+use Rattle.text.specs.Listing.{stateText}
 use Rattle.out.proofs.Runs.{puts-as, puts-then}
 use Rattle.columns.proofs.Lines.{filled-parts}
 use borrow.Author.Needs.{needs}

@@ -5,10 +5,10 @@ use mathlib.Core.Path.{_≡_, ap, _∙_}
 use mathlib.Core.Bool.{cond}
 use lib.ListN.{length}
 use Rattle.rules.specs.Collecting.{keyWidth}
-use Rattle.rules.specs.Listing.{stateText}
+use Rattle.text.specs.Listing.{stateText}
 use Rattle.lists.specs.Stored.{pairsIn}
 use Rattle.lists.proofs.Pairs.{length-pairs-in}
-use Rattle.table.specs.Shown.{setIn, shownAs}
+use Rattle.sets.specs.Shown.{setIn, shownAs}
 use Rattle.columns.proofs.Lines.{length-set}
 use borrow.Author.Needs.{needs}
 use Rattle.columns.proofs.set_size.Statement.{statement}

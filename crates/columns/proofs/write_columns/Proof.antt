@@ -3,7 +3,7 @@
 use native.Mathlib.Omega.{arith}
 use mathlib.Core.Path.{refl}
 use borrow.Author.Tests.{not-true, not-false}
-use Rattle.table.proofs.GivenLaws.{given-wrong, given-right, tested-short}
+use Rattle.table.proofs.GivenLaws.{sets-are, given-wrong, given-right, tested-short}
 use Rattle.out.specs.Answer.{writtenAs}
 use Rattle.out.proofs.Runs.{puts-as, puts-then}
 use Rattle.out.proofs.Answers.{written-short, written-done}
@@ -23,34 +23,34 @@ heading-size-requires : tie.Need-heading-size-requires
 heading-size-requires c κs = tt
 
 sets-size-requires : tie.Need-sets-size-requires
-sets-size-requires c κs = tested-short (c .before .before .before .before .args .table) (c .before .before .meets .ensures) (not-false _ (c .before .if1 .left))
+sets-size-requires c κs = tested-short (c .before .before .before .before .before .args .table) (c .before .before .before .meets .ensures) (not-false _ (c .before .before .if1 .left))
 
 add-size : tie.Need-add-size
 add-size c = search needs
 
 returns-2 : tie.Need-returns-2
 returns-2 c =
-    let a = c .before .before .before .before .before .before .args in
-    given-right (c .before .before .before .before .meets .ensures) (not-false _ (c .before .before .before .if1 .left)) (λ d m e.
+    let a = c .before .before .before .before .before .before .before .args in
+    given-right (c .before .before .before .before .before .meets .ensures) (not-false _ (c .before .before .before .before .if1 .left)) (λ d m e.
     written-short _ _
-    (omega (arith, c .if2 .taken, columns-size (a .csv) (a .table) d m e (c .before .before .heading-size .ensures .0) (c .before .sets-size .ensures .0))))
+    (omega (arith, c .if2 .taken, columns-size (a .csv) (a .table .sets) d m (sets-are _ d m e) (c .before .before .heading-size .ensures .0) (c .before .sets-size .ensures .0))))
 
 put-heading-requires : tie.Need-put-heading-requires
 put-heading-requires c κs = tt
 
 put-sets-requires : tie.Need-put-sets-requires
-put-sets-requires c κs = tested-short (c .before .before .before .before .before .before .before .before .before .before .before .args .table) (c .before .before .before .before .before .before .before .before .before .meets .ensures) (not-false _ (c .before .before .before .before .before .before .before .before .if1 .left))
+put-sets-requires c κs = tested-short (c .before .before .before .before .before .before .before .before .before .before .before .before .args .table) (c .before .before .before .before .before .before .before .before .before .before .meets .ensures) (not-false _ (c .before .before .before .before .before .before .before .before .before .if1 .left))
 
 same-length : tie.Need-same-length
 same-length c = search needs
 
 returns-3 : tie.Need-returns-3
 returns-3 c =
-    let a = c .before .before .before .before .before .before .before .before .before .before .before .before .before .before .args in
-    given-right (c .before .before .before .before .before .before .before .before .before .before .before .before .meets .ensures) (not-false _ (c .before .before .before .before .before .before .before .before .before .before .before .if1 .left)) (λ d m e.
+    let a = c .before .before .before .before .before .before .before .before .before .before .before .before .before .before .before .args in
+    given-right (c .before .before .before .before .before .before .before .before .before .before .before .before .before .meets .ensures) (not-false _ (c .before .before .before .before .before .before .before .before .before .before .before .before .if1 .left)) (λ d m e.
     written-done
-    (omega (arith, c .before .before .before .before .before .before .before .before .if2 .left, columns-size (a .csv) (a .table) d m e (c .before .before .before .before .before .before .before .before .before .before .heading-size .ensures .0) (c .before .before .before .before .before .before .before .before .before .sets-size .ensures .0)))
-    (puts-as (columns-of (a .csv) (a .table) d m e) (puts-then (c .before .before .before .before .before .before .put-heading .ensures) (c .before .before .put-sets .ensures))))
+    (omega (arith, c .before .before .before .before .before .before .before .before .if2 .left, columns-size (a .csv) (a .table .sets) d m (sets-are _ d m e) (c .before .before .before .before .before .before .before .before .before .before .heading-size .ensures .0) (c .before .before .before .before .before .before .before .before .before .sets-size .ensures .0)))
+    (puts-as (columns-of (a .csv) (a .table .sets) d m (sets-are _ d m e)) (puts-then (c .before .before .before .before .before .before .put-heading .ensures) (c .before .before .put-sets .ensures))))
 
 pub write-columns-spec : {M : Type 1} → statement M
 write-columns-spec =

@@ -3,7 +3,7 @@ use Prim.Native.Nat.{_-_, min}
 use native.Mathlib.Omega.{arith}
 use mathlib.Core.Path.{_≡_, refl, sym, ap, _∙_}
 use lib.ListN.{length, drop}
-use Rattle.rules.specs.Air.{hasKind}
+use Rattle.lists.specs.Kinds.{hasKind}
 use Rattle.lists.specs.Stored.{pairsIn}
 use Rattle.lists.proofs.KindLaws.{pairs-here, pairs-end, kind-here, kind-later}
 use borrow.Author.Needs.{needs}

@@ -3,7 +3,7 @@ use Prim.Native.Nat.{_+_, _^_, _<_}
 use native.Mathlib.Omega.{arith}
 use mathlib.Core.Path.{_≡_, refl, ap}
 use lib.ListN.{length}
-use Rattle.rules.specs.Listing.{decimal}
+use Rattle.out.specs.Text.{decimal}
 use Rattle.out.proofs.Digits.{length-decimal, decimal-one, length-decimal-last}
 use borrow.Author.Needs.{needs}
 use Rattle.out.proofs.decimal_size.Statement.{statement}

@@ -1,7 +1,7 @@
 -- `out::digit_at` meets its contract: four bits to a digit, and none past the eighth.
 use Prim.Native.Nat.{ℕ, _/_, _%_}
 use mathlib.Core.Path.{ap, _∙_}
-use Rattle.rules.specs.Listing.{hexDigit}
+use Rattle.out.specs.Text.{hexDigit}
 use Rattle.out.proofs.Digits.{four-bits, high-digit}
 use borrow.Author.Needs.{needs}
 use Rattle.out.proofs.digit_at.Statement.{statement}

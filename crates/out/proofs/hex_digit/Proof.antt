@@ -1,6 +1,6 @@
 -- `out::hex_digit` meets its contract: the definition's test is the code's.
 use borrow.Author.Tests.{lt-ltb, le-ltb}
-use Rattle.rules.specs.Listing.{hexDigit}
+use Rattle.out.specs.Text.{hexDigit}
 use borrow.Author.Needs.{needs}
 use Rattle.out.proofs.hex_digit.Statement.{statement}
 use Rattle.out.proofs.hex_digit.Tie as tie

@@ -3,7 +3,7 @@ use Prim.Native.Nat.{ℕ, suc, _-_}
 use native.Mathlib.Omega.{arith}
 use mathlib.Core.Path.{_≡_, sym, ap, _∙_}
 use mathlib.Core.List.{_∷_}
-use Rattle.rules.specs.Listing.{hexText}
+use Rattle.out.specs.Text.{hexText}
 use Rattle.out.proofs.Runs.{Going, going-start, going-on, going-end}
 use borrow.Author.Needs.{needs}
 use Rattle.out.proofs.put_hex.Statement.{statement}

@@ -1,6 +1,5 @@
 -- `outputs::write_output` meets its contract: each arm is the function that writes what it was asked for.
 use borrow.Author.Needs.{needs}
-use Rattle.sheet.specs.Writing.{notWritten}
 use Rattle.outputs.specs.Output.{outputOf}
 use Rattle.outputs.proofs.write_output.Statement.{statement}
 use Rattle.outputs.proofs.write_output.Tie as tie
@@ -60,7 +59,7 @@ same-length-4 : tie.Need-same-length-4
 same-length-4 c = search needs
 
 returns-4 : tie.Need-returns-4
-unfolding outputOf notWritten
+unfolding outputOf
 returns-4 c = rw (c .before .before .before .before .enum-told4 .given .1) (c .before .before .write-sheet .ensures)
 
 same-length-5 : tie.Need-same-length-5

@@ -1,17 +1,18 @@
 -- `reading::run_blocks` meets its contract: each turn takes one field of the present block or judges the next block, and what is
--- left to do makes the whole.
-use Prim.Native.Nat.{_+_, _-_}
+-- left to do makes the whole. The turns are those of RunRows.antt.
+use Prim.Native.Nat.{ℕ, _+_, _-_, _<_, _^_}
 use native.Mathlib.Omega.{arith}
-use mathlib.Core.Path.{sym, _∙_}
-use mathlib.Core.Logic.{⊎-elim}
-use lib.ListN.{length, getD}
+use mathlib.Core.Path.{ap, _≡_, sym, _∙_}
+use lib.ListN.{length, getD, take, drop}
+use Rattle.block.specs.declared.Spot.{Spot}
 use Rattle.block.specs.Judged.{noSpot}
-use Rattle.block.proofs.Meaning.{says}
+use Rattle.block.proofs.Meaning.{bodyAt, says}
 use borrow.Author.Tests.{not-true, not-false}
-use Rattle.table.specs.Stored.{Stored}
-use Rattle.reading.proofs.RunLaws.{Going, going-first, going-end}
-use Rattle.reading.proofs.StepLaws.{setAt}
-use Rattle.reading.proofs.Turns.{fits-now, place-short, body-of, block-part, judged-few, turn-shows, turn-keeps, turn-new, turn-same, turn-taken, turn-refused}
+use Rattle.table.specs.Stored.{tableOf}
+use Rattle.reading.specs.Gathered.{setsOf}
+use Rattle.reading.proofs.GatheredLaws.{row-size, part-long}
+use Rattle.reading.proofs.RunRows.{Kept, first-table, kept-first, draft-short, kept-held, kept-new, kept-same, kept-taken, kept-refused, kept-end}
+use Rattle.reading.proofs.Turns.{Fits', fits-now, place-short, body-of, block-part, judged-few}
 use borrow.Author.Needs.{needs}
 use Rattle.reading.proofs.run_blocks.Statement.{statement}
 use Rattle.reading.proofs.run_blocks.Tie as tie
@@ -21,63 +22,147 @@ use Rattle.block.proofs.Spot.field.Reads as field-reads
 use Rattle.block.proofs.judge.Reads as judge-reads
 use Rattle.block.proofs.no_spots.Reads as no-spots-reads
 use Rattle.field.proofs.Field.key.Reads as key-reads
-use Rattle.lists.proofs.IdList.empty.Reads as empty-reads
-use Rattle.lists.proofs.IdList.with_field.Reads as with-field-reads
-use Rattle.reading.proofs.Notes.none.Reads as none-reads
-use Rattle.reading.proofs.Notes.noted.Reads as noted-reads
+use Rattle.reading.proofs.Reply.answer.Reads as answer-reads
+use Rattle.reading.proofs.Reply.noted.Reads as noted-reads
+use Rattle.reading.proofs.Reply.to.Reads as to-reads
+use Rattle.reading.proofs.head_of.Reads as head-of-reads
 use Rattle.reading.proofs.is_done.Reads as is-done-reads
-use Rattle.reading.proofs.on_held.Reads as on-held-reads
+use Rattle.reading.proofs.opened.Reads as opened-reads
 use Rattle.reading.proofs.opens.Reads as opens-reads
-use Rattle.reading.proofs.stands_at.Reads as stands-at-reads
+use Rattle.reading.proofs.rows.Rows.none.Reads as none-reads
+use Rattle.reading.proofs.rows.on_held.Reads as on-held-reads
+use Rattle.reading.proofs.rows.row_at.Reads as row-at-reads
+use Rattle.reading.proofs.rows.scatter.Reads as scatter-reads
+use Rattle.sets.proofs.stands_at.Reads as stands-at-reads
+use Rattle.reading.proofs.sets_of.Reads as sets-of-reads
 use Rattle.reading.proofs.unheld_note.Reads as unheld-note-reads
-use Rattle.table.proofs.Table.opened_at.Reads as opened-at-reads
-use Rattle.table.proofs.place_of.Reads as place-of-reads
+use Rattle.sets.proofs.place_of.Reads as place-of-reads
 
 abbrev Inv-loop : tie.InvT-loop
-Inv-loop bytes closed t₀ notes₀ outcome₀ spots₀ from₀ at₀ i₀ t notes outcome spots from at i = Going bytes t₀ t notes outcome spots from at i
+Inv-loop bytes sn₀ sk₀ dn₀ dk₀ shown₀ draft₀ head₀ closed reply₀ spots₀ from₀ at₀ i₀ sn sk dn dk shown draft head reply spots from at i =
+    Kept bytes (tableOf (setsOf head₀ sn₀ sk₀ shown₀ dn₀ dk₀ draft₀)) head sn sk shown dn dk draft reply spots from at i
 
 abbrev μ-loop : tie.MeasureT-loop
-μ-loop bytes closed t₀ notes₀ outcome₀ spots₀ from₀ at₀ i₀ t notes outcome spots from at i = (length bytes - at) + (spots .count - i)
+μ-loop bytes sn₀ sk₀ dn₀ dk₀ shown₀ draft₀ head₀ closed reply₀ spots₀ from₀ at₀ i₀ sn sk dn dk shown draft head reply spots from at i =
+    (length bytes - at) + (spots .count - i)
 
-empty-requires : tie.Need-empty-requires Inv-loop μ-loop
-empty-requires c κs = search needs
+-- ---- contexts: what was known earlier on, from where the loop begins and from where a field's place is known
+
+-- the function's start
+abbrev start : (c : tie.At-loop Inv-loop μ-loop) → tie.Start Inv-loop μ-loop
+start c = c .before .before .before .before .before .before .before .before .before .before .before .before .before .before .before .before .before .before .before
+
+-- the turn at a field; its field read, its key, its place
+abbrev turn : (c : tie.After-stands-at Inv-loop μ-loop) → tie.Then1 Inv-loop μ-loop
+turn c = c .before .before .before .before .before .before .before .before .before .before .before .before .before .before
+
+abbrev read : (c : tie.After-stands-at Inv-loop μ-loop) → tie.After-field Inv-loop μ-loop
+read c = c .before .before .before .before .before .before .before .before .before
+
+abbrev keyed : (c : tie.After-stands-at Inv-loop μ-loop) → tie.After-key Inv-loop μ-loop
+keyed c = c .before .before .before .before .before .before .before .before
+
+abbrev placed : (c : tie.After-stands-at Inv-loop μ-loop) → tie.After-place-of Inv-loop μ-loop
+placed c = c .before .before .before .before
+
+-- ---- what holds there
+
+-- a slice's length is a usize, and it holds bytes
+bytes-fit : (c : tie.Start Inv-loop μ-loop) → length (c .args .bytes .now) < 2 ^ 64
+bytes-fit c = search needs
+
+bytes-of : (c : tie.At-loop Inv-loop μ-loop) → (n : ℕ) → getD (start c .args .bytes .now) n 0 < 256
+bytes-of c n = c .before .before .before .before .before .before .before .before .before .before .before .before .before .before .before .before .before .before .shared-slice-known .given n .fits
+
+next-fits : (i : ℕ) → i < 14 → i + 1 < 2 ^ 64
+next-fits i h = omega arith
+
+-- the rows hold the given table
+laid-first : (c : tie.After-no-spots Inv-loop μ-loop)
+    → tableOf (setsOf (c .before .before .before .head-of .result) (c .before .before .before .before .before .before .before .before .before .before .before .before .scatter .last .1 .0) (c .before .before .before .before .before .before .before .before .before .before .before .before .scatter .last .1 .1 .0) (c .before .before .before .before .before .before .before .before .before .before .before .before .scatter .result) (c .before .before .before .before .before .before .scatter2 .last .1 .0) (c .before .before .before .before .before .before .scatter2 .last .1 .1 .0) (c .before .before .before .before .before .before .scatter2 .result)) ≡ c .before .before .before .before .before .before .before .before .before .before .before .before .before .before .before .before .before .before .args .table
+laid-first c = first-table (c .before .before .before .before .before .before .before .before .before .before .before .before .before .before .before .before .before .before .args .bytes .now) _ (c .before .before .before .before .before .before .before .before .before .before .before .before .before .before .before .before .before .before .pre) _ (c .before .before .before .head-of .ensures) _ _ _ _ _ _ (c .before .before .before .before .before .before .before .before .before .before .before .before .scatter .ensures) (c .before .before .before .before .before .before .scatter2 .ensures)
+
+-- the present field stands within its block
+fits : (c : tie.Then1 Inv-loop μ-loop) → Fits' (start (c .before) .args .bytes .now) (c .before .loop .spots) (c .before .loop .from) (c .before .loop .i)
+fits c = fits-now _ _ _ _ _ _ _ _ _ (c .before .loop .inv .going) (c .if1 .taken)
+
+-- the spot of the present field
+abbrev spot-of : (c : tie.Then1 Inv-loop μ-loop) → Spot
+spot-of c = getD (c .before .loop .spots .spots) (c .before .loop .i) noSpot
+
+-- what the code reads there is its body
+body-is : (c : tie.Then1 Inv-loop μ-loop)
+    → take (c .before .loop .from + spot-of c .end - (c .before .loop .from + spot-of c .start)) (drop (c .before .loop .from + spot-of c .start) (start (c .before) .args .bytes .now))
+    ≡ bodyAt (take 32 (drop (c .before .loop .from) (start (c .before) .args .bytes .now))) (spot-of c)
+body-is c = body-of (start (c .before) .args .bytes .now) (c .before .loop .from) (spot-of c) (fits c .ordered) (fits c .inside)
+
+-- a held key has one of 32 places
+held-place : (c : tie.Then2 Inv-loop μ-loop) → placed (c .before) .place-of .result < 32
+unfolding setsOf
+held-place c = place-short _ _ _ _ _ _ _ _ _ (turn (c .before) .before .loop .inv .going) _ _ (sym (c .before .stands-at .ensures) ∙ c .if2 .taken)
+
+-- ---- the needs
+
+slice-aggregate-scatter : tie.Need-slice-aggregate-scatter Inv-loop μ-loop
+slice-aggregate-scatter c = search needs
+
+slice-aggregate-scatter-2 : tie.Need-slice-aggregate-scatter-2 Inv-loop μ-loop
+slice-aggregate-scatter-2 c = search needs
+
+scatter-requires : tie.Need-scatter-requires Inv-loop μ-loop
+scatter-requires c κs = search needs
+
+slice-aggregate-scatter-3 : tie.Need-slice-aggregate-scatter-3 Inv-loop μ-loop
+slice-aggregate-scatter-3 c = search needs
+
+slice-aggregate-scatter-4 : tie.Need-slice-aggregate-scatter-4 Inv-loop μ-loop
+slice-aggregate-scatter-4 c = search needs
+
+scatter-requires-2 : tie.Need-scatter-requires-2 Inv-loop μ-loop
+scatter-requires-2 c κs = search needs
+
+head-of-requires : tie.Need-head-of-requires Inv-loop μ-loop
+head-of-requires c κs = search needs
 
 none-requires : tie.Need-none-requires Inv-loop μ-loop
 none-requires c κs = search needs
+
+to-requires : tie.Need-to-requires Inv-loop μ-loop
+to-requires c κs = search needs
 
 no-spots-requires : tie.Need-no-spots-requires Inv-loop μ-loop
 no-spots-requires c κs = search needs
 
 loop-holds : tie.Need-loop-holds Inv-loop μ-loop
-unfolding Stored
-loop-holds c = going-first _ _ _ _ (c .before .before .before .before .pre .0) (c .before .before .before .before .pre .1) (c .before .before .before .before .pre .2) (c .before .none .ensures) (c .no-spots .ensures)
+loop-holds c =
+    kept-first _ (c .before .before .before .before .before .before .before .before .before .before .before .before .before .before .before .before .before .before .args .table) (c .before .before .before .before .before .before .before .before .before .before .before .before .before .before .before .before .before .before .pre) _ (c .before .before .before .head-of .ensures) _ _ _ _ _ _ (c .before .before .before .before .before .before .before .before .before .before .before .before .scatter .ensures) (c .before .before .before .before .before .before .scatter2 .ensures) _ (c .before .to .ensures) _ (c .no-spots .ensures)
 
 mul-spot : tie.Need-mul-spot Inv-loop μ-loop
-mul-spot c = let w = fits-now _ _ _ _ _ _ _ _ _ (c .before .loop .inv) (c .if1 .taken) in omega arith
+mul-spot c = let w = fits (c) in omega arith
 
 element-copy-out-spot : tie.Need-element-copy-out-spot Inv-loop μ-loop
-element-copy-out-spot c = let w = fits-now _ _ _ _ _ _ _ _ _ (c .before .loop .inv) (c .if1 .taken) in omega arith
+element-copy-out-spot c = let w = fits (c) in omega arith
 
 cast-start : tie.Need-cast-start Inv-loop μ-loop
 cast-start c = search needs
 
 add-start : tie.Need-add-start Inv-loop μ-loop
-add-start c = let w = fits-now _ _ _ _ _ _ _ _ _ (c .before .before .before .loop .inv) (c .before .before .if1 .taken) in omega arith
+add-start c = let w = fits (c .before .before) in omega (arith, bytes-fit (start (c .before .before .before)))
 
 cast-end : tie.Need-cast-end Inv-loop μ-loop
 cast-end c = search needs
 
 add-end : tie.Need-add-end Inv-loop μ-loop
-add-end c = let w = fits-now _ _ _ _ _ _ _ _ _ (c .before .before .before .before .loop .inv) (c .before .before .before .if1 .taken) in omega arith
+add-end c = let w = fits (c .before .before .before) in omega (arith, bytes-fit (start (c .before .before .before .before)))
 
 sub-field : tie.Need-sub-field Inv-loop μ-loop
-sub-field c = let w = fits-now _ _ _ _ _ _ _ _ _ (c .before .before .before .before .loop .inv) (c .before .before .before .if1 .taken) in omega arith
+sub-field c = let w = fits (c .before .before .before) in omega arith
 
 part-field-start : tie.Need-part-field-start Inv-loop μ-loop
-part-field-start c = let w = fits-now _ _ _ _ _ _ _ _ _ (c .before .before .before .before .loop .inv) (c .before .before .before .if1 .taken) in omega arith
+part-field-start c = let w = fits (c .before .before .before) in omega arith
 
 part-field-end : tie.Need-part-field-end Inv-loop μ-loop
-part-field-end c = let w = fits-now _ _ _ _ _ _ _ _ _ (c .before .before .before .before .loop .inv) (c .before .before .before .if1 .taken) in omega arith
+part-field-end c = let w = fits (c .before .before .before) in omega arith
 
 field-requires : tie.Need-field-requires Inv-loop μ-loop
 field-requires c κs = search needs
@@ -91,132 +176,241 @@ place-of-requires c κs = search needs
 stands-at-requires : tie.Need-stands-at-requires Inv-loop μ-loop
 stands-at-requires c κs = search needs
 
-mul-draft : tie.Need-mul-draft Inv-loop μ-loop
-mul-draft c = let w = place-short _ _ _ _ _ _ _ _ _ (c .before .before .before .before .before .before .before .before .before .before .before .before .before .before .before .before .loop .inv) _ _ (sym (c .before .stands-at .ensures) ∙ c .if2 .taken) in omega arith
+mul-a : tie.Need-mul-a Inv-loop μ-loop
+mul-a c = let w = held-place (c) in omega arith
 
-element-copy-out-draft : tie.Need-element-copy-out-draft Inv-loop μ-loop
-element-copy-out-draft c = let w = place-short _ _ _ _ _ _ _ _ _ (c .before .before .before .before .before .before .before .before .before .before .before .before .before .before .before .before .loop .inv) _ _ (sym (c .before .stands-at .ensures) ∙ c .if2 .taken) in omega arith
+add-e : tie.Need-add-e Inv-loop μ-loop
+add-e c = let w = held-place (c) in omega arith
+
+mul-sn : tie.Need-mul-sn Inv-loop μ-loop
+mul-sn c = let w = held-place (c) in omega arith
 
 sub-on-held : tie.Need-sub-on-held Inv-loop μ-loop
-sub-on-held c = let w = fits-now _ _ _ _ _ _ _ _ _ (c .before .before .before .before .before .before .before .before .before .before .before .before .before .before .before .before .before .loop .inv) (c .before .before .before .before .before .before .before .before .before .before .before .before .before .before .before .before .if1 .taken) in omega arith
+sub-on-held c = let w = held-place (c) in omega arith
+
+part-sn-start : tie.Need-part-sn-start Inv-loop μ-loop
+part-sn-start c = let w = held-place (c) in omega arith
+
+part-sn-end : tie.Need-part-sn-end Inv-loop μ-loop
+part-sn-end c = let w = held-place (c) in omega (arith, c .before .before .before .before .before .before .before .before .before .before .before .before .before .before .before .before .loop .inv .shown .numbers)
+
+sub-on-held-2 : tie.Need-sub-on-held-2 Inv-loop μ-loop
+sub-on-held-2 c = let w = held-place (c .before) in omega arith
+
+part-sk-start : tie.Need-part-sk-start Inv-loop μ-loop
+part-sk-start c = let w = held-place (c .before) in omega arith
+
+part-sk-end : tie.Need-part-sk-end Inv-loop μ-loop
+part-sk-end c = let w = held-place (c .before) in omega (arith, c .before .before .before .before .before .before .before .before .before .before .before .before .before .before .before .before .before .loop .inv .shown .kinds)
+
+row-at-requires : tie.Need-row-at-requires Inv-loop μ-loop
+row-at-requires c κs = let w = held-place (c .before .before .before .before .before .before .before) in (omega (arith, c .before .before .before .before .before .before .before .before .before .before .before .before .before .before .before .before .before .before .before .before .before .before .before .loop .inv .shown .lens), omega (arith, c .before .before .before .before .before .before .before .before .before .before .before .before .before .before .before .before .before .before .before .before .before .before .before .loop .inv .shown .names))
+
+mul-dn : tie.Need-mul-dn Inv-loop μ-loop
+mul-dn c = let w = held-place (c .before .before .before .before .before .before .before .before) in omega arith
+
+sub-on-held-3 : tie.Need-sub-on-held-3 Inv-loop μ-loop
+sub-on-held-3 c = let w = held-place (c .before .before .before .before .before .before .before .before) in omega arith
+
+part-dn-start : tie.Need-part-dn-start Inv-loop μ-loop
+part-dn-start c = let w = held-place (c .before .before .before .before .before .before .before .before) in omega arith
+
+part-dn-end : tie.Need-part-dn-end Inv-loop μ-loop
+part-dn-end c = let w = held-place (c .before .before .before .before .before .before .before .before) in omega (arith, c .before .before .before .before .before .before .before .before .before .before .before .before .before .before .before .before .before .before .before .before .before .before .before .before .loop .inv .draft .numbers)
+
+sub-on-held-4 : tie.Need-sub-on-held-4 Inv-loop μ-loop
+sub-on-held-4 c = let w = held-place (c .before .before .before .before .before .before .before .before .before) in omega arith
+
+part-dk-start : tie.Need-part-dk-start Inv-loop μ-loop
+part-dk-start c = let w = held-place (c .before .before .before .before .before .before .before .before .before) in omega arith
+
+part-dk-end : tie.Need-part-dk-end Inv-loop μ-loop
+part-dk-end c = let w = held-place (c .before .before .before .before .before .before .before .before .before) in omega (arith, c .before .before .before .before .before .before .before .before .before .before .before .before .before .before .before .before .before .before .before .before .before .before .before .before .before .loop .inv .draft .kinds)
+
+row-at-requires-2 : tie.Need-row-at-requires-2 Inv-loop μ-loop
+row-at-requires-2 c κs = let w = held-place (c .before .before .before .before .before .before .before .before .before .before .before .before .before .before .before) in (omega (arith, c .before .before .before .before .before .before .before .before .before .before .before .before .before .before .before .before .before .before .before .before .before .before .before .before .before .before .before .before .before .before .before .loop .inv .draft .lens), omega (arith, c .before .before .before .before .before .before .before .before .before .before .before .before .before .before .before .before .before .before .before .before .before .before .before .before .before .before .before .before .before .before .before .loop .inv .draft .names))
+
+sub-on-held-5 : tie.Need-sub-on-held-5 Inv-loop μ-loop
+sub-on-held-5 c = let w = fits (c .before .before .before .before .before .before .before .before .before .before .before .before .before .before .before .before .before .before .before .before .before .before .before .before .before .before .before .before .before .before .before) in omega arith
 
 part-on-held-start : tie.Need-part-on-held-start Inv-loop μ-loop
-part-on-held-start c = let w = fits-now _ _ _ _ _ _ _ _ _ (c .before .before .before .before .before .before .before .before .before .before .before .before .before .before .before .before .before .loop .inv) (c .before .before .before .before .before .before .before .before .before .before .before .before .before .before .before .before .if1 .taken) in omega arith
+part-on-held-start c = let w = fits (c .before .before .before .before .before .before .before .before .before .before .before .before .before .before .before .before .before .before .before .before .before .before .before .before .before .before .before .before .before .before .before) in omega arith
 
 part-on-held-end : tie.Need-part-on-held-end Inv-loop μ-loop
-part-on-held-end c = let w = fits-now _ _ _ _ _ _ _ _ _ (c .before .before .before .before .before .before .before .before .before .before .before .before .before .before .before .before .before .loop .inv) (c .before .before .before .before .before .before .before .before .before .before .before .before .before .before .before .before .if1 .taken) in omega arith
+part-on-held-end c = let w = fits (c .before .before .before .before .before .before .before .before .before .before .before .before .before .before .before .before .before .before .before .before .before .before .before .before .before .before .before .before .before .before .before) in omega arith
 
 on-held-requires : tie.Need-on-held-requires Inv-loop μ-loop
-on-held-requires c κs = search needs
+on-held-requires c κs =
+    let h = c .before .before .before .before .before .before .before .before .before .before .before .before .before .before .before .before .before in
+    let s = h .before in
+    let K = turn s .before .loop .inv in
+    let w = held-place h in (
+      part-long _ _ (row-size (placed s .place-of .result)) w _ (K .shown .numbers),
+      part-long _ _ (row-size (placed s .place-of .result)) w _ (K .shown .kinds),
+      part-long _ _ (row-size (placed s .place-of .result)) w _ (K .draft .numbers),
+      part-long _ _ (row-size (placed s .place-of .result)) w _ (K .draft .kinds),
+      draft-short K (placed s .place-of .result) w _ (c .before .row-at2 .ensures),
+    )
 
-mul-draft-2 : tie.Need-mul-draft-2 Inv-loop μ-loop
-mul-draft-2 c = let w = place-short _ _ _ _ _ _ _ _ _ (c .before .before .before .before .before .before .before .before .before .before .before .before .before .before .before .before .before .before .before .before .before .loop .inv) _ _ (sym (c .before .before .before .before .before .before .stands-at .ensures) ∙ c .before .before .before .before .before .if2 .taken) in omega arith
+mul-shown : tie.Need-mul-shown Inv-loop μ-loop
+mul-shown c = let w = held-place (c .before .before .before .before .before .before .before .before .before .before .before .before .before .before .before .before .before .before .before .before .before .before) in omega arith
 
-element-set-from-draft : tie.Need-element-set-from-draft Inv-loop μ-loop
-element-set-from-draft c = let w = place-short _ _ _ _ _ _ _ _ _ (c .before .before .before .before .before .before .before .before .before .before .before .before .before .before .before .before .before .before .before .before .before .loop .inv) _ _ (sym (c .before .before .before .before .before .before .stands-at .ensures) ∙ c .before .before .before .before .before .if2 .taken) in omega arith
+element-write-shown : tie.Need-element-write-shown Inv-loop μ-loop
+element-write-shown c = let w = held-place (c .before .before .before .before .before .before .before .before .before .before .before .before .before .before .before .before .before .before .before .before .before .before) in omega arith
 
-mul-left : tie.Need-mul-left Inv-loop μ-loop
-mul-left c = let w = place-short _ _ _ _ _ _ _ _ _ (c .before .before .before .before .before .before .before .before .before .before .before .before .before .before .before .before .before .before .before .before .before .loop .inv) _ _ (sym (c .before .before .before .before .before .before .stands-at .ensures) ∙ c .before .before .before .before .before .if2 .taken) in omega arith
+element-write-shown-2 : tie.Need-element-write-shown-2 Inv-loop μ-loop
+element-write-shown-2 c = let w = held-place (c .before .before .before .before .before .before .before .before .before .before .before .before .before .before .before .before .before .before .before .before .before .before) in omega arith
 
-element-set-from-left : tie.Need-element-set-from-left Inv-loop μ-loop
-element-set-from-left c = let w = place-short _ _ _ _ _ _ _ _ _ (c .before .before .before .before .before .before .before .before .before .before .before .before .before .before .before .before .before .before .before .before .before .loop .inv) _ _ (sym (c .before .before .before .before .before .before .stands-at .ensures) ∙ c .before .before .before .before .before .if2 .taken) in omega arith
+mul-draft : tie.Need-mul-draft Inv-loop μ-loop
+mul-draft c = let w = held-place (c .before .before .before .before .before .before .before .before .before .before .before .before .before .before .before .before .before .before .before .before .before .before) in omega arith
 
-element-write-t : tie.Need-element-write-t Inv-loop μ-loop
-element-write-t c = let w = place-short _ _ _ _ _ _ _ _ _ (c .before .before .before .before .before .before .before .before .before .before .before .before .before .before .before .before .before .before .before .before .before .before .loop .inv) _ _ (sym (c .before .before .before .before .before .before .before .stands-at .ensures) ∙ c .before .before .before .before .before .before .if2 .taken) in omega arith
+element-write-draft : tie.Need-element-write-draft Inv-loop μ-loop
+element-write-draft c = let w = held-place (c .before .before .before .before .before .before .before .before .before .before .before .before .before .before .before .before .before .before .before .before .before .before) in omega arith
+
+element-write-draft-2 : tie.Need-element-write-draft-2 Inv-loop μ-loop
+element-write-draft-2 c = let w = held-place (c .before .before .before .before .before .before .before .before .before .before .before .before .before .before .before .before .before .before .before .before .before .before) in omega arith
+
+element-write-head : tie.Need-element-write-head Inv-loop μ-loop
+element-write-head c = let w = held-place (c .before .before .before .before .before .before .before .before .before .before .before .before .before .before .before .before .before .before .before .before .before .before .before) in omega arith
 
 noted-requires : tie.Need-noted-requires Inv-loop μ-loop
-noted-requires c κs = fits-now _ _ _ _ _ _ _ _ _ (c .before .before .before .before .before .before .before .before .before .before .before .before .before .before .before .before .before .before .before .before .before .before .loop .inv) (c .before .before .before .before .before .before .before .before .before .before .before .before .before .before .before .before .before .before .before .before .before .if1 .taken) .few
+noted-requires c κs = fits (c .before .before .before .before .before .before .before .before .before .before .before .before .before .before .before .before .before .before .before .before .before .before .before .before .before .before .before .before .before .before .before .before .before .before .before .before .before .before) .few
 
 add-i : tie.Need-add-i Inv-loop μ-loop
-add-i c = let w = fits-now _ _ _ _ _ _ _ _ _ (c .before .before .before .before .before .before .before .before .before .before .before .before .before .before .before .before .before .before .before .before .before .before .before .loop .inv) (c .before .before .before .before .before .before .before .before .before .before .before .before .before .before .before .before .before .before .before .before .before .before .if1 .taken) in omega arith
+add-i c = record { fits = next-fits _ (fits (c .before .before .before .before .before .before .before .before .before .before .before .before .before .before .before .before .before .before .before .before .before .before .before .before .before .before .before .before .before .before .before .before .before .before .before .before .before .before .before) .few) }
 
 loop-less : tie.Need-loop-less Inv-loop μ-loop
-loop-less c = let w = c .before .before .before .before .before .before .before .before .before .before .before .before .before .before .before .before .before .before .before .before .before .before .if1 .taken in omega arith
+loop-less c = let w = c .before .before .before .before .before .before .before .before .before .before .before .before .before .before .before .before .before .before .before .before .before .before .before .before .before .before .before .before .before .before .before .before .before .before .before .before .before .before .before .if1 .taken in omega arith
 
 loop-again : tie.Need-loop-again Inv-loop μ-loop
-unfolding setAt
 loop-again c =
-    let l = c .before .before .before .before .before .before .before .before .before .before .before .before .before .before .before .before .before .before .before .before .before .before .before .loop in
-    let h = c .before .before .before .before .before .before .before .before .before .before .before .before .before .before .before .before .before .before .before .before .before .before .if1 .taken in
-    let w = fits-now _ _ _ _ _ _ _ _ _ (l .inv) h in
-    let body-is = body-of (c .before .before .before .before .before .before .before .before .before .before .before .before .before .before .before .before .before .before .before .before .before .before .before .before .before .before .before .before .args .bytes .now) (l .from) (getD (l .spots .spots) (l .i) noSpot) (w .ordered) (w .inside) in
-    let b = sym (c .before .before .before .before .before .before .before .before .stands-at .ensures) ∙ c .before .before .before .before .before .before .before .if2 .taken in
-    ⊎-elim
-    (λ v. turn-shows _ _ _ _ _ _ _ _ _ (l .inv) h _ body-is _ (c .before .before .before .before .before .before .before .before .before .before .before .before .before .before .before .before .before .field .ensures) _ (c .before .before .before .before .before .before .before .before .before .before .before .before .before .before .before .before .key .ensures) _ (c .before .before .before .before .before .before .before .before .before .before .before .before .place-of .ensures) b
-    (c .before .before .before .before .on-held .result) (c .before .before .before .before .on-held .ensures) _ _ (c .noted .ensures) (v .0 .taken) (v .1))
-    (λ v. turn-keeps _ _ _ _ _ _ _ _ _ (l .inv) h _ body-is _ (c .before .before .before .before .before .before .before .before .before .before .before .before .before .before .before .before .before .field .ensures) _ (c .before .before .before .before .before .before .before .before .before .before .before .before .before .before .before .before .key .ensures) _ (c .before .before .before .before .before .before .before .before .before .before .before .before .place-of .ensures) b
-    (c .before .before .before .before .on-held .result) (c .before .before .before .before .on-held .ensures) _ _ (c .noted .ensures) (v .0 .left) (v .1))
-    (c .before .before .if3 .came)
+    let y = c .before .before .before .before .before .before .on-held .last in
+    let h = c .before .before .before .before .before .before .before .before .before .before .before .before .before .before .before .before .before .before .before .before .before .before .before .before in
+    let s = h .before in
+    let K = turn s .before .loop .inv in
+    let w = held-place h in
+    kept-held K (turn s .if1 .taken) _ (body-is (turn s)) _ (read s .field .ensures) _ (keyed s .key .ensures) _ (placed s .place-of .ensures) _ (sym (s .stands-at .ensures) ∙ h .if2 .taken) w _ (row-size (placed s .place-of .result)) _ _ (c .before .before .before .before .before .before .before .before .before .before .before .before .before .before .before .before .row-at .ensures) (c .before .before .before .before .before .before .before .before .row-at2 .ensures) (c .before .before .before .before .before .before .on-held .result) (y .0) (y .1 .0) (y .1 .1 .1 .0) (y .1 .1 .1 .1 .0)
+    (c .before .before .before .before .before .before .on-held .ensures) (c .before .before .before .before .before .sn4 .given ∙ part-long _ _ (row-size (placed s .place-of .result)) w _ (K .shown .numbers)) (c .before .before .before .before .sk4 .given ∙ part-long _ _ (row-size (placed s .place-of .result)) w _ (K .shown .kinds))
+    (c .before .before .before .dn4 .given ∙ part-long _ _ (row-size (placed s .place-of .result)) w _ (K .draft .numbers)) (c .before .before .dk4 .given ∙ part-long _ _ (row-size (placed s .place-of .result)) w _ (K .draft .kinds)) (c .noted .ensures)
 
 opens-requires : tie.Need-opens-requires Inv-loop μ-loop
 opens-requires c κs = search needs
 
-empty-requires-2 : tie.Need-empty-requires-2 Inv-loop μ-loop
-empty-requires-2 c κs = search needs
+slice-aggregate-sets-of : tie.Need-slice-aggregate-sets-of Inv-loop μ-loop
+slice-aggregate-sets-of c = search needs
 
-sub-with-field : tie.Need-sub-with-field Inv-loop μ-loop
-sub-with-field c = let w = fits-now _ _ _ _ _ _ _ _ _ (c .before .before .before .before .before .before .before .before .before .before .before .before .before .before .before .before .before .before .before .loop .inv) (c .before .before .before .before .before .before .before .before .before .before .before .before .before .before .before .before .before .before .if1 .taken) in omega arith
+slice-aggregate-sets-of-2 : tie.Need-slice-aggregate-sets-of-2 Inv-loop μ-loop
+slice-aggregate-sets-of-2 c = search needs
 
-part-with-field-start : tie.Need-part-with-field-start Inv-loop μ-loop
-part-with-field-start c = let w = fits-now _ _ _ _ _ _ _ _ _ (c .before .before .before .before .before .before .before .before .before .before .before .before .before .before .before .before .before .before .before .loop .inv) (c .before .before .before .before .before .before .before .before .before .before .before .before .before .before .before .before .before .before .if1 .taken) in omega arith
+slice-aggregate-sets-of-3 : tie.Need-slice-aggregate-sets-of-3 Inv-loop μ-loop
+slice-aggregate-sets-of-3 c = search needs
 
-part-with-field-end : tie.Need-part-with-field-end Inv-loop μ-loop
-part-with-field-end c = let w = fits-now _ _ _ _ _ _ _ _ _ (c .before .before .before .before .before .before .before .before .before .before .before .before .before .before .before .before .before .before .before .loop .inv) (c .before .before .before .before .before .before .before .before .before .before .before .before .before .before .before .before .before .before .if1 .taken) in omega arith
+slice-aggregate-sets-of-4 : tie.Need-slice-aggregate-sets-of-4 Inv-loop μ-loop
+slice-aggregate-sets-of-4 c = search needs
 
-with-field-requires : tie.Need-with-field-requires Inv-loop μ-loop
-with-field-requires c κs = search needs
+sets-of-requires : tie.Need-sets-of-requires Inv-loop μ-loop
+sets-of-requires c κs = (c .before .before .before .before .before .before .before .before .before .before .before .before .before .before .before .before .before .before .before .before .before .before .loop .inv .shown .numbers, c .before .before .before .before .before .before .before .before .before .before .before .before .before .before .before .before .before .before .before .before .before .before .loop .inv .shown .kinds, c .before .before .before .before .before .before .before .before .before .before .before .before .before .before .before .before .before .before .before .before .before .before .loop .inv .draft .numbers, c .before .before .before .before .before .before .before .before .before .before .before .before .before .before .before .before .before .before .before .before .before .before .loop .inv .draft .kinds)
 
-opened-at-requires : tie.Need-opened-at-requires Inv-loop μ-loop
-opened-at-requires c κs = search needs
+sub-opened : tie.Need-sub-opened Inv-loop μ-loop
+sub-opened c = let w = fits (c .before .before .before .before .before .before .before .before .before .before .before .before .before .before .before .before .before .before .before .before .before .before) in omega arith
+
+part-opened-start : tie.Need-part-opened-start Inv-loop μ-loop
+part-opened-start c = let w = fits (c .before .before .before .before .before .before .before .before .before .before .before .before .before .before .before .before .before .before .before .before .before .before) in omega arith
+
+part-opened-end : tie.Need-part-opened-end Inv-loop μ-loop
+part-opened-end c = let w = fits (c .before .before .before .before .before .before .before .before .before .before .before .before .before .before .before .before .before .before .before .before .before .before) in omega arith
+
+opened-requires : tie.Need-opened-requires Inv-loop μ-loop
+opened-requires c κs = search needs
+
+head-of-requires-2 : tie.Need-head-of-requires-2 Inv-loop μ-loop
+head-of-requires-2 c κs = search needs
+
+slice-aggregate-scatter-5 : tie.Need-slice-aggregate-scatter-5 Inv-loop μ-loop
+slice-aggregate-scatter-5 c = sym (c .before .before .before .before .before .before .before .before .before .before .before .before .before .before .before .before .before .before .before .before .before .before .before .before .before .before .before .before .loop .inv .shown .numbers)
+
+slice-aggregate-scatter-6 : tie.Need-slice-aggregate-scatter-6 Inv-loop μ-loop
+slice-aggregate-scatter-6 c = sym (c .before .before .before .before .before .before .before .before .before .before .before .before .before .before .before .before .before .before .before .before .before .before .before .before .before .before .before .before .before .loop .inv .shown .kinds)
+
+scatter-requires-3 : tie.Need-scatter-requires-3 Inv-loop μ-loop
+scatter-requires-3 c κs = (c .before .before .before .before .before .before .before .before .before .before .before .before .before .before .before .before .before .before .before .before .before .before .before .before .before .before .before .before .before .loop .inv .shown .numbers, c .before .before .before .before .before .before .before .before .before .before .before .before .before .before .before .before .before .before .before .before .before .before .before .before .before .before .before .before .before .loop .inv .shown .kinds)
+
+slice-aggregate-scatter-7 : tie.Need-slice-aggregate-scatter-7 Inv-loop μ-loop
+slice-aggregate-scatter-7 c = sym (c .before .before .before .before .before .before .before .before .before .before .before .before .before .before .before .before .before .before .before .before .before .before .before .before .before .before .before .before .before .before .before .before .before .before .loop .inv .draft .numbers)
+
+slice-aggregate-scatter-8 : tie.Need-slice-aggregate-scatter-8 Inv-loop μ-loop
+slice-aggregate-scatter-8 c = sym (c .before .before .before .before .before .before .before .before .before .before .before .before .before .before .before .before .before .before .before .before .before .before .before .before .before .before .before .before .before .before .before .before .before .before .before .loop .inv .draft .kinds)
+
+scatter-requires-4 : tie.Need-scatter-requires-4 Inv-loop μ-loop
+scatter-requires-4 c κs = (c .before .before .before .before .before .before .before .before .before .before .before .before .before .before .before .before .before .before .before .before .before .before .before .before .before .before .before .before .before .before .before .before .before .before .before .loop .inv .draft .numbers, c .before .before .before .before .before .before .before .before .before .before .before .before .before .before .before .before .before .before .before .before .before .before .before .before .before .before .before .before .before .before .before .before .before .before .before .loop .inv .draft .kinds)
 
 noted-requires-2 : tie.Need-noted-requires-2 Inv-loop μ-loop
-noted-requires-2 c κs = fits-now _ _ _ _ _ _ _ _ _ (c .before .before .before .before .before .before .before .before .before .before .before .before .before .before .before .before .before .before .before .before .before .before .before .before .loop .inv) (c .before .before .before .before .before .before .before .before .before .before .before .before .before .before .before .before .before .before .before .before .before .before .before .if1 .taken) .few
+noted-requires-2 c κs = fits (c .before .before .before .before .before .before .before .before .before .before .before .before .before .before .before .before .before .before .before .before .before .before .before .before .before .before .before .before .before .before .before .before .before .before .before .before .before) .few
 
 add-i-2 : tie.Need-add-i-2 Inv-loop μ-loop
-add-i-2 c = let w = fits-now _ _ _ _ _ _ _ _ _ (c .before .before .before .before .before .before .before .before .before .before .before .before .before .before .before .before .before .before .before .before .before .before .before .before .before .loop .inv) (c .before .before .before .before .before .before .before .before .before .before .before .before .before .before .before .before .before .before .before .before .before .before .before .before .if1 .taken) in omega arith
+add-i-2 c = record { fits = next-fits _ (fits (c .before .before .before .before .before .before .before .before .before .before .before .before .before .before .before .before .before .before .before .before .before .before .before .before .before .before .before .before .before .before .before .before .before .before .before .before .before .before) .few) }
 
 loop-less-2 : tie.Need-loop-less-2 Inv-loop μ-loop
-loop-less-2 c = let w = c .before .before .before .before .before .before .before .before .before .before .before .before .before .before .before .before .before .before .before .before .before .before .before .before .if1 .taken in omega arith
+loop-less-2 c = let w = c .before .before .before .before .before .before .before .before .before .before .before .before .before .before .before .before .before .before .before .before .before .before .before .before .before .before .before .before .before .before .before .before .before .before .before .before .before .before .if1 .taken in omega arith
 
 loop-again-2 : tie.Need-loop-again-2 Inv-loop μ-loop
 loop-again-2 c =
-    let l = c .before .before .before .before .before .before .before .before .before .before .before .before .before .before .before .before .before .before .before .before .before .before .before .before .before .loop in
-    let h = c .before .before .before .before .before .before .before .before .before .before .before .before .before .before .before .before .before .before .before .before .before .before .before .before .if1 .taken in
-    let w = fits-now _ _ _ _ _ _ _ _ _ (l .inv) h in
-    let body-is = body-of (c .before .before .before .before .before .before .before .before .before .before .before .before .before .before .before .before .before .before .before .before .before .before .before .before .before .before .before .before .before .before .args .bytes .now) (l .from) (getD (l .spots .spots) (l .i) noSpot) (w .ordered) (w .inside) in
-    turn-new _ _ _ _ _ _ _ _ _ (l .inv) h _ body-is _ (c .before .before .before .before .before .before .before .before .before .before .before .before .before .before .before .before .before .before .before .field .ensures) _ (c .before .before .before .before .before .before .before .before .before .before .before .before .before .before .before .before .before .before .key .ensures) _ (c .before .before .before .before .before .before .before .before .before .before .before .before .before .before .place-of .ensures)
-    (sym (c .before .before .before .before .before .before .before .before .before .before .stands-at .ensures) ∙ c .before .before .before .before .before .before .before .before .before .if2 .left) (sym (c .before .before .before .before .before .before .before .before .opens .ensures) ∙ c .before .before .before .before .before .before .before .if4 .taken) (λ j. c .before .before .before .before .before .before .before .before .before .before .before .before .before .before .before .before .before .before .before .before .before .before .before .before .before .before .before .before .before .shared-slice-known .given j .fits)
-    (c .before .before .before .before .before .before .empty2 .result) (c .before .before .before .before .with-field .result) (c .before .before .before .before .before .before .empty2 .ensures) (c .before .before .before .before .with-field .ensures) _ (c .before .opened-at .ensures) _ (c .noted2 .ensures)
+    let h = c .before .before .before .before .before .before .before .before .before .before .before .before .before .before .before .before .before .before .before .before .before .before .before in
+    let s = h .before in
+    kept-new (turn s .before .loop .inv) (turn s .if1 .taken) _ (body-is (turn s)) _ (read s .field .ensures) _ (keyed s .key .ensures) _ (placed s .place-of .ensures) _ (sym (s .stands-at .ensures) ∙ h .if2 .left) (sym (c .before .before .before .before .before .before .before .before .before .before .before .before .before .before .before .before .before .before .before .before .before .before .opens .ensures) ∙ c .before .before .before .before .before .before .before .before .before .before .before .before .before .before .before .before .before .before .before .before .before .if3 .taken) (bytes-of (turn s .before))
+    (c .before .before .before .before .before .before .before .before .before .before .before .before .before .before .opened .result) (c .before .before .before .before .before .before .before .before .before .before .before .before .before .before .before .before .sets-of .result) (c .before .before .before .before .before .before .before .before .before .before .before .before .before .before .before .before .sets-of .ensures) (c .before .before .before .before .before .before .before .before .before .before .before .before .before .before .opened .ensures) _ (c .before .before .before .before .before .before .before .before .before .before .before .before .before .head-of2 .ensures) _ _ _ _ _ _
+    (c .before .before .before .before .before .before .before .before .before .scatter3 .ensures) (c .before .before .before .scatter4 .ensures) (c .noted2 .ensures)
 
 unheld-note-requires : tie.Need-unheld-note-requires Inv-loop μ-loop
 unheld-note-requires c κs = search needs
 
 noted-requires-3 : tie.Need-noted-requires-3 Inv-loop μ-loop
-noted-requires-3 c κs = fits-now _ _ _ _ _ _ _ _ _ (c .before .before .before .before .before .before .before .before .before .before .before .before .before .before .before .before .before .before .before .loop .inv) (c .before .before .before .before .before .before .before .before .before .before .before .before .before .before .before .before .before .before .if1 .taken) .few
+noted-requires-3 c κs = fits (c .before .before .before .before .before .before .before .before .before .before .before .before .before .before .before .before .before .before) .few
 
 add-i-3 : tie.Need-add-i-3 Inv-loop μ-loop
-add-i-3 c = let w = fits-now _ _ _ _ _ _ _ _ _ (c .before .before .before .before .before .before .before .before .before .before .before .before .before .before .before .before .before .before .before .before .loop .inv) (c .before .before .before .before .before .before .before .before .before .before .before .before .before .before .before .before .before .before .before .if1 .taken) in omega arith
+add-i-3 c = record { fits = next-fits _ (fits (c .before .before .before .before .before .before .before .before .before .before .before .before .before .before .before .before .before .before .before) .few) }
 
 loop-less-3 : tie.Need-loop-less-3 Inv-loop μ-loop
 loop-less-3 c = let w = c .before .before .before .before .before .before .before .before .before .before .before .before .before .before .before .before .before .before .before .if1 .taken in omega arith
 
 loop-again-3 : tie.Need-loop-again-3 Inv-loop μ-loop
 loop-again-3 c =
-    let l = c .before .before .before .before .before .before .before .before .before .before .before .before .before .before .before .before .before .before .before .before .loop in
-    let h = c .before .before .before .before .before .before .before .before .before .before .before .before .before .before .before .before .before .before .before .if1 .taken in
-    let w = fits-now _ _ _ _ _ _ _ _ _ (l .inv) h in
-    let body-is = body-of (c .before .before .before .before .before .before .before .before .before .before .before .before .before .before .before .before .before .before .before .before .before .before .before .before .before .args .bytes .now) (l .from) (getD (l .spots .spots) (l .i) noSpot) (w .ordered) (w .inside) in
-    turn-same _ _ _ _ _ _ _ _ _ (l .inv) h _ body-is _ (c .before .before .before .before .before .before .before .before .before .before .before .before .before .before .field .ensures) _ (c .before .before .before .before .before .before .before .before .before .before .before .before .before .key .ensures) _ (c .before .before .before .before .before .before .before .before .before .place-of .ensures)
-    (sym (c .before .before .before .before .before .stands-at .ensures) ∙ c .before .before .before .before .if2 .left) (sym (c .before .before .before .opens .ensures) ∙ c .before .before .if4 .left) (c .before .unheld-note .result) (c .before .unheld-note .ensures) _ (c .noted3 .ensures)
+    let h = c .before .before .before .before in
+    let s = h .before in
+    kept-same (turn s .before .loop .inv) (turn s .if1 .taken) _ (body-is (turn s)) _ (read s .field .ensures) _ (keyed s .key .ensures) _ (placed s .place-of .ensures) _ (sym (s .stands-at .ensures) ∙ h .if2 .left) (sym (c .before .before .before .opens .ensures) ∙ c .before .before .if3 .left) (c .before .unheld-note .result) (c .before .unheld-note .ensures) (c .noted3 .ensures)
 
-sub-if5 : tie.Need-sub-if5 Inv-loop μ-loop
-sub-if5 c = search needs
+sub-if4 : tie.Need-sub-if4 Inv-loop μ-loop
+sub-if4 c = search needs
+
+slice-aggregate-sets-of-5 : tie.Need-slice-aggregate-sets-of-5 Inv-loop μ-loop
+slice-aggregate-sets-of-5 c = search needs
+
+slice-aggregate-sets-of-6 : tie.Need-slice-aggregate-sets-of-6 Inv-loop μ-loop
+slice-aggregate-sets-of-6 c = search needs
+
+slice-aggregate-sets-of-7 : tie.Need-slice-aggregate-sets-of-7 Inv-loop μ-loop
+slice-aggregate-sets-of-7 c = search needs
+
+slice-aggregate-sets-of-8 : tie.Need-slice-aggregate-sets-of-8 Inv-loop μ-loop
+slice-aggregate-sets-of-8 c = search needs
+
+sets-of-requires-2 : tie.Need-sets-of-requires-2 Inv-loop μ-loop
+sets-of-requires-2 c κs = (c .before .before .before .before .before .before .loop .inv .shown .numbers, c .before .before .before .before .before .before .loop .inv .shown .kinds, c .before .before .before .before .before .before .loop .inv .draft .numbers, c .before .before .before .before .before .before .loop .inv .draft .kinds)
+
+of-requires : tie.Need-of-requires Inv-loop μ-loop
+of-requires c κs = search needs
+
+answer-requires : tie.Need-answer-requires Inv-loop μ-loop
+answer-requires c κs = search needs
 
 returns : tie.Need-returns Inv-loop μ-loop
-returns c = going-end _ _ _ _ _ _ _ _ _ (c .before .before .loop .inv) (c .before .if1 .left) (c .if5 .taken)
+returns c =
+    let b = c .before .before .before .before .before .before .before in
+    let l = b .before .before in
+    kept-end (l .loop .inv) (b .before .if1 .left) (b .if4 .taken) (start l .args .table) (laid-first (l .before)) (c .before .of .result) (c .before .of .ensures ∙ ap tableOf (c .before .before .sets-of2 .ensures)) _ (c .answer .ensures)
 
 add-at : tie.Need-add-at Inv-loop μ-loop
-add-at c = search needs
+add-at c = let y = c .if4 .left in omega (arith, bytes-fit (start (c .before .before)))
 
 sub-judge : tie.Need-sub-judge Inv-loop μ-loop
 sub-judge c = search needs
@@ -230,23 +424,31 @@ part-judge-end c = search needs
 judge-requires : tie.Need-judge-requires Inv-loop μ-loop
 judge-requires c κs = search needs
 
-none-requires-2 : tie.Need-none-requires-2 Inv-loop μ-loop
-none-requires-2 c κs = search needs
+to-requires-2 : tie.Need-to-requires-2 Inv-loop μ-loop
+to-requires-2 c κs = search needs
 
 is-done-requires : tie.Need-is-done-requires Inv-loop μ-loop
 is-done-requires c κs = search needs
 
 loop-less-4 : tie.Need-loop-less-4 Inv-loop μ-loop
-loop-less-4 c = let w = judged-few _ _ (says _ (c .before .before .before .before .judge .ensures)) in let z = c .before .before .before .before .before .before .before .if1 .left in let y = c .before .before .before .before .before .before .if5 .left in omega arith
+loop-less-4 c = let w = judged-few _ _ (says _ (c .before .before .before .before .judge .ensures)) in let b = c .before .before .before .before .before .before in let z = b .before .if1 .left in let y = b .if4 .left in omega arith
 
 loop-again-4 : tie.Need-loop-again-4 Inv-loop μ-loop
-loop-again-4 c = turn-refused _ _ _ _ _ _ _ _ _ (c .before .before .before .before .before .before .before .before .loop .inv) (c .before .before .before .before .before .before .before .if1 .left) (c .before .before .before .before .before .before .if5 .left) (λ j. c .before .before .before .before .before .before .before .before .before .before .before .before .shared-slice-known .given j .fits) _ (block-part (c .before .before .before .before .before .before .before .before .before .before .before .before .before .args .bytes .now) (c .before .before .before .before .before .before .before .before .loop .at)) (c .before .before .before .before .judge .result) _ (c .before .before .none2 .ensures) (says _ (c .before .before .before .before .judge .ensures)) (sym (c .before .is-done .ensures) ∙ not-true _ (c .if6 .taken)) _ (c .before .before .before .before .before .before .before .before .before .before .before .empty .ensures)
+loop-again-4 c =
+    let b = c .before .before .before .before .before .before in
+    let l = b .before .before in
+    kept-refused (l .loop .inv) (b .before .if1 .left) (b .if4 .left) (bytes-of l) _ (block-part (start l .args .bytes .now) (l .loop .at)) (c .before .before .before .before .judge .result) (says _ (c .before .before .before .before .judge .ensures)) _ (c .before .before .before .to2 .ensures)
+    (sym (c .before .is-done .ensures) ∙ not-true _ (c .if5 .taken)) _ (c .before .before .before .before .before .before .before .before .before .before .before .none .ensures)
 
 loop-less-5 : tie.Need-loop-less-5 Inv-loop μ-loop
-loop-less-5 c = let w = judged-few _ _ (says _ (c .before .before .before .before .judge .ensures)) in let z = c .before .before .before .before .before .before .before .if1 .left in let y = c .before .before .before .before .before .before .if5 .left in omega arith
+loop-less-5 c = let w = judged-few _ _ (says _ (c .before .before .before .before .judge .ensures)) in let b = c .before .before .before .before .before .before in let z = b .before .if1 .left in let y = b .if4 .left in omega arith
 
 loop-again-5 : tie.Need-loop-again-5 Inv-loop μ-loop
-loop-again-5 c = turn-taken _ _ _ _ _ _ _ _ _ (c .before .before .before .before .before .before .before .before .loop .inv) (c .before .before .before .before .before .before .before .if1 .left) (c .before .before .before .before .before .before .if5 .left) (λ j. c .before .before .before .before .before .before .before .before .before .before .before .before .shared-slice-known .given j .fits) _ (block-part (c .before .before .before .before .before .before .before .before .before .before .before .before .before .args .bytes .now) (c .before .before .before .before .before .before .before .before .loop .at)) (c .before .before .before .before .judge .result) _ (c .before .before .none2 .ensures) (says _ (c .before .before .before .before .judge .ensures)) (sym (c .before .is-done .ensures) ∙ not-false _ (c .if6 .left))
+loop-again-5 c =
+    let b = c .before .before .before .before .before .before in
+    let l = b .before .before in
+    kept-taken (l .loop .inv) (b .before .if1 .left) (b .if4 .left) (bytes-of l) _ (block-part (start l .args .bytes .now) (l .loop .at)) (c .before .before .before .before .judge .result) (says _ (c .before .before .before .before .judge .ensures)) _ (c .before .before .before .to2 .ensures)
+    (sym (c .before .is-done .ensures) ∙ not-false _ (c .if5 .left))
 
 pub run-blocks-spec : {M : Type 1} → statement M
 run-blocks-spec =
@@ -254,8 +456,15 @@ run-blocks-spec =
     (tie.spec
     Inv-loop
     μ-loop
-    empty-requires
+    slice-aggregate-scatter
+    slice-aggregate-scatter-2
+    scatter-requires
+    slice-aggregate-scatter-3
+    slice-aggregate-scatter-4
+    scatter-requires-2
+    head-of-requires
     none-requires
+    to-requires
     no-spots-requires
     loop-holds
     mul-spot
@@ -271,28 +480,56 @@ run-blocks-spec =
     key-requires
     place-of-requires
     stands-at-requires
-    mul-draft
-    element-copy-out-draft
+    mul-a
+    add-e
+    mul-sn
     sub-on-held
+    part-sn-start
+    part-sn-end
+    sub-on-held-2
+    part-sk-start
+    part-sk-end
+    row-at-requires
+    mul-dn
+    sub-on-held-3
+    part-dn-start
+    part-dn-end
+    sub-on-held-4
+    part-dk-start
+    part-dk-end
+    row-at-requires-2
+    sub-on-held-5
     part-on-held-start
     part-on-held-end
     on-held-requires
-    mul-draft-2
-    element-set-from-draft
-    mul-left
-    element-set-from-left
-    element-write-t
+    mul-shown
+    element-write-shown
+    element-write-shown-2
+    mul-draft
+    element-write-draft
+    element-write-draft-2
+    element-write-head
     noted-requires
     add-i
     loop-less
     loop-again
     opens-requires
-    empty-requires-2
-    sub-with-field
-    part-with-field-start
-    part-with-field-end
-    with-field-requires
-    opened-at-requires
+    slice-aggregate-sets-of
+    slice-aggregate-sets-of-2
+    slice-aggregate-sets-of-3
+    slice-aggregate-sets-of-4
+    sets-of-requires
+    sub-opened
+    part-opened-start
+    part-opened-end
+    opened-requires
+    head-of-requires-2
+    slice-aggregate-scatter-5
+    slice-aggregate-scatter-6
+    scatter-requires-3
+    slice-aggregate-scatter-7
+    slice-aggregate-scatter-8
+    scatter-requires-4
     noted-requires-2
     add-i-2
     loop-less-2
@@ -302,14 +539,21 @@ run-blocks-spec =
     add-i-3
     loop-less-3
     loop-again-3
-    sub-if5
+    sub-if4
+    slice-aggregate-sets-of-5
+    slice-aggregate-sets-of-6
+    slice-aggregate-sets-of-7
+    slice-aggregate-sets-of-8
+    sets-of-requires-2
+    of-requires
+    answer-requires
     returns
     add-at
     sub-judge
     part-judge-start
     part-judge-end
     judge-requires
-    none-requires-2
+    to-requires-2
     is-done-requires
     loop-less-4
     loop-again-4

@@ -1,7 +1,7 @@
 -- `sheet::no_sets` meets its contract.
 use mathlib.Core.Path.{ap}
 use mathlib.Core.Bool.{false}
-use Rattle.table.specs.declared.Table.{Table}
+use Rattle.sets.specs.declared.Sets.{Sets}
 use Rattle.sheet.specs.declared.ReadSets.{ReadSets}
 use Rattle.sheet.specs.Reading.{noSets}
 use borrow.Author.Needs.{needs}
@@ -11,9 +11,9 @@ use Rattle.sheet.proofs.no_sets.Tie as tie
 empty-requires : tie.Need-empty-requires
 empty-requires c κs = search needs
 
--- no sets, around the table of no entries
-abbrev around : Table → ReadSets
-around t = record { ok = false; table = t; next = 0 }
+-- no sets, around none
+abbrev around : Sets → ReadSets
+around s = record { ok = false; sets = s; next = 0 }
 
 returns : tie.Need-returns
 unfolding noSets

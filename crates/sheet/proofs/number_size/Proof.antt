@@ -4,7 +4,7 @@ use native.Mathlib.Omega.{arith}
 use mathlib.Core.Path.{_≡_, ap}
 use mathlib.Core.List.{List}
 use lib.ListN.{length}
-use Rattle.rules.specs.Sheet.{sheetNumber}
+use Rattle.layout.specs.Sheet.{sheetNumber}
 use Rattle.sheet.proofs.Groups.{Grouped, grouped-start, grouped-next, grouped-last, number-short}
 use borrow.Author.Needs.{needs}
 use Rattle.sheet.proofs.number_size.Statement.{statement}

@@ -3,7 +3,7 @@ use Prim.Native.Nat.{_+_, _-_, _≤_}
 use native.Mathlib.Omega.{arith}
 use mathlib.Core.Path.{_≡_, ap}
 use lib.ListN.{length, drop}
-use Rattle.rules.specs.Sheet.{sheetPairs}
+use Rattle.layout.specs.Sheet.{sheetPairs}
 use Rattle.sheet.proofs.Writes.{pairsOf, pairs-size, pairs-end, size-here}
 use borrow.Author.Needs.{needs}
 use Rattle.sheet.proofs.pairs_size.Statement.{statement}

@@ -2,7 +2,7 @@
 use Prim.Native.Nat.{ℕ}
 use mathlib.Core.Path.{refl}
 use mathlib.Core.List.{List, []}
-use Rattle.rules.specs.Sheet.{sheetNumber}
+use Rattle.layout.specs.Sheet.{sheetNumber}
 use Rattle.out.proofs.Runs.{Going, going-start, going-on, going-end}
 use Rattle.sheet.proofs.Groups.{Grouped, grouped-start, grouped-next, grouped-last}
 use borrow.Author.Needs.{needs}

@@ -2,7 +2,7 @@
 use Prim.Native.Nat.{_-_}
 use mathlib.Core.Path.{_≡_, refl}
 use lib.ListN.{length, drop}
-use Rattle.rules.specs.Sheet.{sheetPairs}
+use Rattle.layout.specs.Sheet.{sheetPairs}
 use Rattle.out.proofs.Runs.{Going, going-start, going-on, going-end}
 use Rattle.sheet.proofs.Writes.{pairsOf, pairs-here, pairs-end}
 use borrow.Author.Needs.{needs}

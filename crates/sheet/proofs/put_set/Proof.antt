@@ -1,10 +1,10 @@
 -- `sheet::put_set` meets its contract: its numbers and its identifiers, one after another.
 use mathlib.Core.Path.{_≡_, sym, ap}
 use lib.ListN.{length}
-use Rattle.rules.specs.Sheet.{sheetNumber, sheetSet}
+use Rattle.layout.specs.Sheet.{sheetNumber, sheetSet}
 use Rattle.out.specs.Put.{Puts}
 use Rattle.out.proofs.Runs.{puts-as, puts-then, puts-length}
-use Rattle.table.specs.Shown.{setIn, shownAs}
+use Rattle.sets.specs.Shown.{setIn, shownAs}
 use Rattle.sheet.proofs.Writes.{pairs-many}
 use borrow.Author.Needs.{needs}
 use Rattle.sheet.proofs.put_set.Statement.{statement}

@@ -3,11 +3,11 @@ use Prim.Native.Nat.{_-_}
 use native.Mathlib.Omega.{arith}
 use mathlib.Core.Logic.{⊎-elim}
 use mathlib.Core.Path.{refl, sym, ap, subst}
-use Rattle.rules.specs.Sheet.{sheetSets}
-use Rattle.table.specs.Shown.{setsFrom, setsIn}
-use Rattle.table.proofs.ShownLaws.{sets-skip, sets-end, sets-all}
+use Rattle.layout.specs.Sheet.{sheetSets}
+use Rattle.sets.specs.Shown.{setsFrom, setsIn}
+use Rattle.sets.proofs.ShownLaws.{sets-skip, sets-end, sets-all}
 use Rattle.out.proofs.Runs.{Going, going-start, going-on, going-as, going-end}
-use Rattle.sheet.proofs.Writes.{sets-here, list-short, table-short}
+use Rattle.sheet.proofs.Writes.{sets-here, list-short, count-short}
 use borrow.Author.Needs.{needs}
 use Rattle.sheet.proofs.put_sets.Statement.{statement}
 use Rattle.sheet.proofs.put_sets.Tie as tie
@@ -25,23 +25,23 @@ loop-holds : tie.Need-loop-holds Inv-loop μ-loop
 loop-holds c =
     let a = c .before .before .args in
     subst (λ rest. Going (a .out .now) (a .at) (sheetSets (setsIn (a .t3))) (a .out .now) (c .cut-to .result) rest)
-    (sym (ap sheetSets (sets-all (a .t3) {n = a .t3 .count} (omega (arith, table-short _ (c .before .before .pre))))))
+    (sym (ap sheetSets (sets-all (a .t3) {n = a .t3 .count} (omega (arith, count-short _ (c .before .before .pre))))))
     (going-start _ _ _ _ (c .cut-to .ensures))
 
 mul-list : tie.Need-mul-list Inv-loop μ-loop
-mul-list c = omega (arith, table-short _ (c .before .before .before .before .pre))
+mul-list c = omega (arith, count-short _ (c .before .before .before .before .pre))
 
 element-copy-out-list : tie.Need-element-copy-out-list Inv-loop μ-loop
-element-copy-out-list c = omega (arith, table-short _ (c .before .before .before .before .pre))
+element-copy-out-list c = omega (arith, count-short _ (c .before .before .before .before .pre))
 
 mul-put-set : tie.Need-mul-put-set Inv-loop μ-loop
-mul-put-set c = omega (arith, table-short _ (c .before .before .before .before .before .before .before .before .pre))
+mul-put-set c = omega (arith, count-short _ (c .before .before .before .before .before .before .before .before .pre))
 
 element-copy-out-put-set : tie.Need-element-copy-out-put-set Inv-loop μ-loop
-element-copy-out-put-set c = omega (arith, table-short _ (c .before .before .before .before .before .before .before .before .pre))
+element-copy-out-put-set c = omega (arith, count-short _ (c .before .before .before .before .before .before .before .before .pre))
 
 element-copy-out-put-set-2 : tie.Need-element-copy-out-put-set-2 Inv-loop μ-loop
-element-copy-out-put-set-2 c = omega (arith, table-short _ (c .before .before .before .before .before .before .before .before .before .pre))
+element-copy-out-put-set-2 c = omega (arith, count-short _ (c .before .before .before .before .before .before .before .before .before .pre))
 
 put-set-requires : tie.Need-put-set-requires Inv-loop μ-loop
 put-set-requires c κs = list-short (c .before .before .before .before .before .before .before .before .before .before .args .t3) _ (c .before .before .before .before .before .before .before .before .before .before .pre) (c .before .before .before .before .before .before .loop-test .taken)

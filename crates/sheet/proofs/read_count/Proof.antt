@@ -1,6 +1,6 @@
 -- `sheet::read_count` meets its contract.
 use mathlib.Core.Path.{sym, _∙_}
-use Rattle.rules.proofs.SheetParse.{countFits}
+use Rattle.layout.specs.Parse.{countFits}
 use Rattle.sheet.proofs.Tests.{if-none, if-failed, if-passed, count-none, count-large, count-passes}
 use borrow.Author.Needs.{needs}
 use Rattle.sheet.proofs.read_count.Statement.{statement}

@@ -1,7 +1,7 @@
 -- `sheet::read_id` meets its contract.
 use mathlib.Core.Path.{sym, _∙_}
 use borrow.Author.Tests.{not-true, not-false}
-use Rattle.rules.proofs.SheetParse.{numberFits}
+use Rattle.layout.specs.Parse.{numberFits}
 use Rattle.sheet.proofs.Tests.{if-none, if-failed, if-passed, id-wide, id-there, id-passes}
 use borrow.Author.Needs.{needs}
 use Rattle.sheet.proofs.read_id.Statement.{statement}

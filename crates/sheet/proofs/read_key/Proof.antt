@@ -1,6 +1,6 @@
 -- `sheet::read_key` meets its contract.
 use mathlib.Core.Path.{sym, _∙_}
-use Rattle.rules.proofs.SheetParse.{keyFits}
+use Rattle.layout.specs.Parse.{keyFits}
 use Rattle.sheet.proofs.Tests.{if-none, if-failed, if-passed, key-before, key-large, key-unnumbered, key-passes}
 use borrow.Author.Needs.{needs}
 use Rattle.sheet.proofs.read_key.Statement.{statement}

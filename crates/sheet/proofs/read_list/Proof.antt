@@ -3,7 +3,6 @@ use Prim.Native.Nat.{_-_, _≤_}
 use native.Mathlib.Omega.{arith}
 use mathlib.Core.Path.{sym, _∙_, ap}
 use Rattle.rules.specs.Arrays.{padded}
-use Rattle.rules.specs.Collecting.{keyWidth}
 use Rattle.sheet.specs.Reading.{pairRead}
 use Rattle.sheet.proofs.Pairs.{Gathered, list-start, list-long, list-wrong, list-next, list-end}
 use borrow.Author.Needs.{needs}
@@ -11,7 +10,7 @@ use Rattle.sheet.proofs.read_list.Statement.{statement}
 use Rattle.sheet.proofs.read_list.Tie as tie
 
 abbrev Inv-loop : tie.InvT-loop
-Inv-loop key named count bytes at numbers₀ kinds₀ place₀ i₀ numbers kinds place i = (i ≤ count) × Gathered (keyWidth key) named count bytes at numbers kinds place i
+Inv-loop key named count bytes at numbers₀ kinds₀ place₀ i₀ numbers kinds place i = (i ≤ count) × Gathered key named count bytes at numbers kinds place i
 
 abbrev μ-loop : tie.MeasureT-loop
 μ-loop key named count bytes at numbers₀ kinds₀ place₀ i₀ numbers kinds place i = count - i

@@ -3,8 +3,8 @@ use Prim.Native.Nat.{_+_, _-_, _*_, _%_, _^_, _<_, _≤_}
 use native.Mathlib.Omega.{arith}
 use mathlib.Core.Path.{refl, sym, _∙_}
 use lib.ListN.{getD}
-use Rattle.rules.proofs.SheetParse.{readNumber}
-use Rattle.rules.proofs.SheetParseLaws.{Room, room-start, room-more, room-value}
+use Rattle.layout.specs.Parse.{readNumber}
+use Rattle.layout.proofs.ParseLaws.{Room, room-start, room-more, room-value}
 use Rattle.sheet.proofs.Numbers.{byte-small, Goes, number-short, number-wrong, number-last, number-next, number-end, number-room}
 use borrow.Author.Needs.{needs}
 use Rattle.sheet.proofs.read_number.Statement.{statement}

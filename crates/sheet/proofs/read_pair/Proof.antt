@@ -1,7 +1,6 @@
 -- `sheet::read_pair` meets its contract: a kind and a number are read one after the other, each with its test.
 use native.Mathlib.Omega.{arith}
 use mathlib.Core.Path.{sym, _∙_}
-use Rattle.rules.specs.Collecting.{keyWidth}
 use Rattle.sheet.proofs.Pairs.{pair-no-kind, pair-no-number, pair-made, pair-kind}
 use borrow.Author.Needs.{needs}
 use Rattle.sheet.proofs.read_pair.Statement.{statement}
@@ -20,7 +19,7 @@ returns : tie.Need-returns
 returns c = pair-no-kind _ _ _ _ _ _ _ (c .before .before .before .before .before .before .pre) (sym (c .enum-told .given .1) ∙ c .before .before .read-kind .ensures)
 
 cast-kind : tie.Need-cast-kind
-cast-kind c = omega (arith, pair-kind (keyWidth (c .before .before .before .before .before .before .before .args .key)) _ (c .before .before .before .before .before .before .before .args .kinds .now) (c .before .before .before .before .before .before .before .args .numbers .now) _ _ _ (c .before .before .before .before .before .before .before .pre) _ _ (sym (c .before .k .given .1) ∙ c .before .before .before .read-kind .ensures))
+cast-kind c = omega (arith, pair-kind (c .before .before .before .before .before .before .before .args .key) _ (c .before .before .before .before .before .before .before .args .kinds .now) (c .before .before .before .before .before .before .before .args .numbers .now) _ _ _ (c .before .before .before .before .before .before .before .pre) _ _ (sym (c .before .k .given .1) ∙ c .before .before .before .read-kind .ensures))
 
 read-id-requires : tie.Need-read-id-requires
 read-id-requires c κs = search needs

@@ -3,7 +3,7 @@ use Prim.Native.Nat.{_≤_}
 use native.Mathlib.Omega.{arith}
 use mathlib.Core.Path.{_≡_, ap}
 use lib.ListN.{length}
-use Rattle.rules.specs.Sheet.{sheetNumber}
+use Rattle.layout.specs.Sheet.{sheetNumber}
 use Rattle.sheet.proofs.Groups.{number-short}
 use Rattle.sheet.proofs.Writes.{pairs-size, size-set}
 use borrow.Author.Needs.{needs}

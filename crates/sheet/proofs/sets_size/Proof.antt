@@ -4,10 +4,10 @@ use native.Mathlib.Omega.{arith}
 use mathlib.Core.Logic.{⊎-elim}
 use mathlib.Core.Path.{_≡_, ap}
 use lib.ListN.{length}
-use Rattle.rules.specs.Sheet.{sheetSets}
-use Rattle.table.specs.Shown.{setsFrom, setsIn}
-use Rattle.table.proofs.ShownLaws.{sets-skip, sets-end, sets-all}
-use Rattle.sheet.proofs.Writes.{size-sets, list-short, table-short, sets-short}
+use Rattle.layout.specs.Sheet.{sheetSets}
+use Rattle.sets.specs.Shown.{setsFrom, setsIn}
+use Rattle.sets.proofs.ShownLaws.{sets-skip, sets-end, sets-all}
+use Rattle.sheet.proofs.Writes.{size-sets, list-short, count-short, sets-short}
 use borrow.Author.Needs.{needs}
 use Rattle.sheet.proofs.sets_size.Statement.{statement}
 use Rattle.sheet.proofs.sets_size.Tie as tie
@@ -20,22 +20,22 @@ abbrev μ-loop : tie.MeasureT-loop
 
 loop-holds : tie.Need-loop-holds Inv-loop μ-loop
 loop-holds c =
-    omega (arith, ap (λ ss. length (sheetSets ss)) (sets-all (c .args .t1) {n = c .args .t1 .count} (omega (arith, table-short _ (c .pre)))))
+    omega (arith, ap (λ ss. length (sheetSets ss)) (sets-all (c .args .t1) {n = c .args .t1 .count} (omega (arith, count-short _ (c .pre)))))
 
 mul-list : tie.Need-mul-list Inv-loop μ-loop
-mul-list c = omega (arith, table-short _ (c .before .before .pre))
+mul-list c = omega (arith, count-short _ (c .before .before .pre))
 
 element-copy-out-list : tie.Need-element-copy-out-list Inv-loop μ-loop
-element-copy-out-list c = omega (arith, table-short _ (c .before .before .pre))
+element-copy-out-list c = omega (arith, count-short _ (c .before .before .pre))
 
 mul-set-size : tie.Need-mul-set-size Inv-loop μ-loop
-mul-set-size c = omega (arith, table-short _ (c .before .before .before .before .before .pre))
+mul-set-size c = omega (arith, count-short _ (c .before .before .before .before .before .pre))
 
 element-copy-out-set-size : tie.Need-element-copy-out-set-size Inv-loop μ-loop
-element-copy-out-set-size c = omega (arith, table-short _ (c .before .before .before .before .before .pre))
+element-copy-out-set-size c = omega (arith, count-short _ (c .before .before .before .before .before .pre))
 
 element-copy-out-set-size-2 : tie.Need-element-copy-out-set-size-2 Inv-loop μ-loop
-element-copy-out-set-size-2 c = omega (arith, table-short _ (c .before .before .before .before .before .before .pre))
+element-copy-out-set-size-2 c = omega (arith, count-short _ (c .before .before .before .before .before .before .pre))
 
 set-size-requires : tie.Need-set-size-requires Inv-loop μ-loop
 set-size-requires c κs = list-short (c .before .before .before .before .before .before .before .args .t1) _ (c .before .before .before .before .before .before .before .pre) (c .before .before .before .before .before .loop-test .taken)

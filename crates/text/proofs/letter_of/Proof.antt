@@ -1,6 +1,6 @@
 -- `text::letter_of` meets its contract: the definition's tests are the code's.
 use borrow.Author.Tests.{eq-eqb, ne-eqb}
-use Rattle.rules.specs.Listing.{kindLetter}
+use Rattle.text.specs.Listing.{kindLetter}
 use Rattle.text.proofs.letter_of.Statement.{statement}
 use Rattle.text.proofs.letter_of.Tie as tie
 

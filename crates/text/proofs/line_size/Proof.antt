@@ -4,7 +4,7 @@ use native.Mathlib.Omega.{arith}
 use mathlib.Core.Path.{_≡_, ap, _∙_}
 use lib.ListN.{length}
 use Rattle.rules.specs.Collecting.{keyWidth}
-use Rattle.rules.specs.Listing.{decimal}
+use Rattle.out.specs.Text.{decimal}
 use Rattle.lists.specs.Stored.{pairsIn}
 use Rattle.lists.proofs.Pairs.{length-pairs-in}
 use Rattle.text.proofs.Texts.{length-line}

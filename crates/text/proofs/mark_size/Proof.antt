@@ -1,7 +1,7 @@
 -- `text::mark_size` meets its contract: three bytes or none.
 use native.Mathlib.Omega.{arith}
 use mathlib.Core.Path.{sym, _∙_}
-use Rattle.rules.specs.Listing.{deadText}
+use Rattle.text.specs.Listing.{deadText}
 use Rattle.text.proofs.mark_size.Statement.{statement}
 use Rattle.text.proofs.mark_size.Tie as tie
 

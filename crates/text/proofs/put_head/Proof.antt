@@ -1,5 +1,5 @@
 -- `text::put_head` meets its contract: the key, the state and the count, one after another.
-use Rattle.rules.specs.Listing.{idsText}
+use Rattle.text.specs.Listing.{idsText}
 use Rattle.out.proofs.Runs.{puts-then}
 use borrow.Author.Needs.{needs}
 use Rattle.text.proofs.put_head.Statement.{statement}

@@ -4,11 +4,12 @@ use native.Mathlib.Omega.{arith}
 use mathlib.Core.Path.{_≡_, ap}
 use mathlib.Core.List.{_∷_, _++_}
 use lib.ListN.{length}
-use Rattle.rules.specs.Listing.{hexText, stateText, idsText, lineOf}
+use Rattle.out.specs.Text.{hexText}
+use Rattle.text.specs.Listing.{stateText, idsText, lineOf}
 use Rattle.lists.specs.Stored.{pairsIn}
 use Rattle.lists.proofs.Pairs.{length-pairs-in}
 use Rattle.out.proofs.Runs.{puts-length, puts-as, puts-then}
-use Rattle.table.specs.Shown.{setIn, shownAs}
+use Rattle.sets.specs.Shown.{setIn, shownAs}
 use borrow.Author.Needs.{needs}
 use Rattle.text.proofs.put_line.Statement.{statement}
 use Rattle.text.proofs.put_line.Tie as tie

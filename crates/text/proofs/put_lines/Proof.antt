@@ -3,10 +3,10 @@ use Prim.Native.Nat.{_-_}
 use native.Mathlib.Omega.{arith}
 use mathlib.Core.Path.{refl, sym, ap, subst}
 use mathlib.Core.Logic.{⊎-elim}
-use Rattle.rules.specs.Listing.{linesOf}
+use Rattle.text.specs.Listing.{linesOf}
 use Rattle.out.proofs.Runs.{Going, going-start, going-on, going-as, going-end}
-use Rattle.table.specs.Shown.{setsFrom, setsIn}
-use Rattle.table.proofs.ShownLaws.{sets-skip, sets-end, sets-all}
+use Rattle.sets.specs.Shown.{setsFrom, setsIn}
+use Rattle.sets.proofs.ShownLaws.{sets-skip, sets-end, sets-all}
 use Rattle.text.proofs.SetLaws.{lines-next}
 use borrow.Author.Needs.{needs}
 use Rattle.text.proofs.put_lines.Statement.{statement}

@@ -1,6 +1,6 @@
 -- `text::put_mark` meets its contract: three bytes one after another, or none.
 use mathlib.Core.Path.{sym, _∙_}
-use Rattle.rules.specs.Listing.{deadText}
+use Rattle.text.specs.Listing.{deadText}
 use Rattle.out.proofs.Runs.{puts-none, puts-as, puts-then}
 use borrow.Author.Needs.{needs}
 use Rattle.text.proofs.put_mark.Statement.{statement}

@@ -1,7 +1,7 @@
 -- `text::put_pair` meets its contract: a blank, the letter and the digits, one after another.
 use native.Mathlib.Omega.{arith}
 use Rattle.rules.specs.Field.{pair}
-use Rattle.rules.specs.Listing.{pairText}
+use Rattle.text.specs.Listing.{pairText}
 use Rattle.rules.proofs.TableRules.{width-most}
 use Rattle.out.proofs.Runs.{puts-as, puts-then}
 use borrow.Author.Needs.{needs}

@@ -4,7 +4,7 @@ use native.Mathlib.Omega.{arith}
 use mathlib.Core.Path.{_≡_, ap}
 use lib.ListN.{length, drop}
 use Rattle.rules.specs.Collecting.{keyWidth}
-use Rattle.rules.specs.Listing.{pairsText}
+use Rattle.text.specs.Listing.{pairsText}
 use Rattle.lists.specs.Stored.{pairsIn}
 use Rattle.out.proofs.Runs.{Going, going-start, going-on, going-end}
 use Rattle.lists.proofs.KindLaws.{pairs-here, pairs-end}

@@ -1,5 +1,5 @@
 -- `text::put_state` meets its contract: the word of each state.
-use Rattle.rules.specs.Listing.{stateText}
+use Rattle.text.specs.Listing.{stateText}
 use Rattle.out.proofs.Runs.{puts-as}
 use borrow.Author.Needs.{needs}
 use Rattle.text.proofs.put_state.Statement.{statement}

@@ -1,6 +1,6 @@
 -- `text::put_tail` meets its contract: nothing where no byte is left over, and else a line of a word and a count.
 use borrow.Author.Tests.{eq-eqb, ne-eqb}
-use Rattle.rules.specs.Listing.{tailText}
+use Rattle.text.specs.Listing.{tailText}
 use Rattle.out.proofs.Runs.{puts-none, puts-as}
 use borrow.Author.Needs.{needs}
 use Rattle.text.proofs.put_tail.Statement.{statement}

@@ -1,6 +1,6 @@
 -- `text::state_size` meets its contract: the length of the word of each state.
 use native.Mathlib.Omega.{arith}
-use Rattle.rules.specs.Listing.{stateText}
+use Rattle.text.specs.Listing.{stateText}
 use Rattle.text.proofs.state_size.Statement.{statement}
 use Rattle.text.proofs.state_size.Tie as tie
 

@@ -2,7 +2,7 @@
 use native.Mathlib.Omega.{arith}
 use lib.ListN.{length-append}
 use borrow.Author.Tests.{eq-eqb, ne-eqb}
-use Rattle.rules.specs.Listing.{tailText}
+use Rattle.text.specs.Listing.{tailText}
 use borrow.Author.Needs.{needs}
 use Rattle.text.proofs.tail_size.Statement.{statement}
 use Rattle.text.proofs.tail_size.Tie as tie

@@ -39,44 +39,47 @@ returns-4 c =
     (sym (c .before .before .before .before .before .before .before .zeros-u32 .ensures) ∙ not-false _ (c .before .before .before .before .before .before .if2 .left))
     (sym (c .before .before .zeros-u8 .ensures) ∙ not-false _ (c .before .if3 .left))
 
-element-copy-out-if5 : tie.Need-element-copy-out-if5
-element-copy-out-if5 c = search needs
+element-copy-out-may-begin : tie.Need-element-copy-out-may-begin
+element-copy-out-may-begin c = search needs
+
+may-begin-requires : tie.Need-may-begin-requires
+may-begin-requires c κs = search needs
 
 returns-5 : tie.Need-returns-5
-returns-5 c = refuted _ (λ h. c .if5 .taken (holds-facts _ _ h .first (c .before .before .if4 .left)))
+returns-5 c = refuted _ (λ h. fails (c .before .may-begin .ensures) (not-true _ (c .if5 .taken)) (holds-facts _ _ h .first (c .before .before .before .if4 .left)))
 
 names-meet-requires : tie.Need-names-meet-requires
 names-meet-requires c κs = search needs
 
 returns-6 : tie.Need-returns-6
-returns-6 c = refuted _ (λ h. fails (c .before .names-meet .ensures) (not-true _ (c .if6 .taken)) (holds-facts _ _ h .names (c .before .before .before .before .if4 .left)))
+returns-6 c = refuted _ (λ h. fails (c .before .names-meet .ensures) (not-true _ (c .if6 .taken)) (holds-facts _ _ h .names (c .before .before .before .before .before .if4 .left)))
 
 pairs-meet-requires : tie.Need-pairs-meet-requires
 pairs-meet-requires c κs = search needs
 
 returns-7 : tie.Need-returns-7
-returns-7 c = refuted _ (λ h. fails (c .before .pairs-meet .ensures) (not-true _ (c .if7 .taken)) (holds-facts _ _ h .pairs (c .before .before .before .before .before .before .before .before .before .before .before .if4 .left)))
+returns-7 c = refuted _ (λ h. fails (c .before .pairs-meet .ensures) (not-true _ (c .if7 .taken)) (holds-facts _ _ h .pairs (c .before .before .before .before .before .before .before .before .before .before .before .before .if4 .left)))
 
 all-differ-requires : tie.Need-all-differ-requires
 all-differ-requires c κs = search needs
 
 returns-8 : tie.Need-returns-8
 returns-8 c =
-    let nl : length (c .before .before .before .before .before .before .before .before .before .before .before .before .before .before .before .before .before .before .before .before .before .before .before .before .before .before .before .before .before .args .t1 .numbers) ≡ 128 = search needs in
-    let kl : length (c .before .before .before .before .before .before .before .before .before .before .before .before .before .before .before .before .before .before .before .before .before .before .before .before .before .before .before .before .before .args .t1 .kinds) ≡ 128 = search needs in
+    let nl : length (c .before .before .before .before .before .before .before .before .before .before .before .before .before .before .before .before .before .before .before .before .before .before .before .before .before .before .before .before .before .before .args .t1 .numbers) ≡ 128 = search needs in
+    let kl : length (c .before .before .before .before .before .before .before .before .before .before .before .before .before .before .before .before .before .before .before .before .before .before .before .before .before .before .before .before .before .before .args .t1 .kinds) ≡ 128 = search needs in
     record {
       sound = λ e. holds-by _ _
           (record {
-            short = c .before .before .before .before .before .before .before .before .before .before .before .before .before .before .before .before .before .before .before .before .before .before .before .before .before .before .before .before .if1 .left;
-            numbers-end = sym (c .before .before .before .before .before .before .before .before .before .before .before .before .before .before .before .before .before .before .before .before .before .before .before .before .zeros-u32 .ensures) ∙ not-false _ (c .before .before .before .before .before .before .before .before .before .before .before .before .before .before .before .before .before .before .before .before .before .before .before .if2 .left);
-            kinds-end = sym (c .before .before .before .before .before .before .before .before .before .before .before .before .before .before .before .before .before .before .before .zeros-u8 .ensures) ∙ not-false _ (c .before .before .before .before .before .before .before .before .before .before .before .before .before .before .before .before .before .before .if3 .left);
-            unnamed = λ z. absurd (c .before .before .before .before .before .before .before .before .before .before .before .before .before .before .before .before .before .if4 .left z);
-            first = λ n. c .before .before .before .before .before .before .before .before .before .before .before .before .before .before .before .if5 .left;
+            short = c .before .before .before .before .before .before .before .before .before .before .before .before .before .before .before .before .before .before .before .before .before .before .before .before .before .before .before .before .before .if1 .left;
+            numbers-end = sym (c .before .before .before .before .before .before .before .before .before .before .before .before .before .before .before .before .before .before .before .before .before .before .before .before .before .zeros-u32 .ensures) ∙ not-false _ (c .before .before .before .before .before .before .before .before .before .before .before .before .before .before .before .before .before .before .before .before .before .before .before .before .if2 .left);
+            kinds-end = sym (c .before .before .before .before .before .before .before .before .before .before .before .before .before .before .before .before .before .before .before .before .zeros-u8 .ensures) ∙ not-false _ (c .before .before .before .before .before .before .before .before .before .before .before .before .before .before .before .before .before .before .before .if3 .left);
+            unnamed = λ z. absurd (c .before .before .before .before .before .before .before .before .before .before .before .before .before .before .before .before .before .before .if4 .left z);
+            first = λ n. sym (c .before .before .before .before .before .before .before .before .before .before .before .before .before .before .before .before .may-begin .ensures) ∙ not-false _ (c .before .before .before .before .before .before .before .before .before .before .before .before .before .before .before .if5 .left);
             names = λ n. sym (c .before .before .before .before .before .before .before .before .before .before .before .before .before .before .names-meet .ensures) ∙ not-false _ (c .before .before .before .before .before .before .before .before .before .before .before .before .before .if6 .left);
             pairs = λ n. sym (c .before .before .before .before .before .before .before .pairs-meet .ensures) ∙ not-false _ (c .before .before .before .before .before .before .if7 .left);
             differ = λ n. sym (c .all-differ .ensures) ∙ e;
           }) nl kl;
-      complete = λ h. c .all-differ .ensures ∙ holds-facts _ _ h .differ (c .before .before .before .before .before .before .before .before .before .before .before .before .before .before .before .before .before .if4 .left);
+      complete = λ h. c .all-differ .ensures ∙ holds-facts _ _ h .differ (c .before .before .before .before .before .before .before .before .before .before .before .before .before .before .before .before .before .before .if4 .left);
     }
 
 pub meets-spec : {M : Type 1} → statement M
@@ -89,7 +92,8 @@ meets-spec =
     zeros-u8-requires
     returns-3
     returns-4
-    element-copy-out-if5
+    element-copy-out-may-begin
+    may-begin-requires
     returns-5
     names-meet-requires
     returns-6

@@ -18,8 +18,7 @@ use Rattle.field.proofs.Field.identifier.Reads as identifier-reads
 use Rattle.field.proofs.Identifier.kind.Reads as kind-reads
 use Rattle.field.proofs.Identifier.number.Reads as number-reads
 use Rattle.lists.proofs.IdList.empty.Reads as empty-reads
-use Rattle.lists.proofs.join_names.Reads as join-names-reads
-use Rattle.lists.proofs.named_by.Reads as named-by-reads
+use Rattle.lists.proofs.names_with.Reads as names-with-reads
 use Rattle.lists.proofs.stands_in.Reads as stands-in-reads
 
 abbrev Inv-loop : tie.InvT-loop
@@ -28,11 +27,8 @@ Inv-loop body f next₀ count i₀ next i = (i ≤ count) × ((count < 2 ^ 64) �
 abbrev μ-loop : tie.MeasureT-loop
 μ-loop body f next₀ count i₀ next i = count - i
 
-named-by-requires : tie.Need-named-by-requires Inv-loop μ-loop
-named-by-requires c κs = search needs
-
-join-names-requires : tie.Need-join-names-requires Inv-loop μ-loop
-join-names-requires c κs = search needs
+names-with-requires : tie.Need-names-with-requires Inv-loop μ-loop
+names-with-requires c κs = search needs
 
 loop-holds : tie.Need-loop-holds Inv-loop μ-loop
 loop-holds c =
@@ -57,7 +53,7 @@ returns : tie.Need-returns Inv-loop μ-loop
 unfolding grownAs renamed
 returns c =
     (λ i. record { fits = false; list = c .empty .ensures i })
-    ∙ with-field-is _ _ _ _ _ none (c .before .before .before .before .before .before .before .before .before .before .before .before .before .before .before .named-by .ensures) (c .before .before .before .before .before .before .before .before .before .before .before .before .before .before .join-names .ensures)
+    ∙ with-field-is _ _ _ _ _ none refl (c .before .before .before .before .before .before .before .before .before .before .before .before .before .before .names-with .ensures)
     (sym (c .before .before .before .before .before .before .before .before .before .before .before .before .before .loop .inv .1 .1 .1)
     ∙ grown-full _ _ _ _ _ _ _ _ (c .before .before .before .before .before .before .before .before .before .before .before .identifier .ensures) (c .before .before .before .before .before .before .before .before .before .before .kind .ensures) (c .before .before .before .before .before .before .before .before .before .number .ensures) _ (c .before .before .before .stands-in .ensures) (not-true _ (c .before .before .if1 .taken)) (c .before .before .before .before .before .before .before .before .before .before .before .before .loop-test .taken) (c .before .if2 .taken))
 
@@ -98,7 +94,7 @@ loop-again c = (
 returns-2 : tie.Need-returns-2 Inv-loop μ-loop
 unfolding grownAs renamed
 returns-2 c =
-    with-field-is _ _ _ _ _ (some (c .before .loop .next)) (c .before .before .before .named-by .ensures) (c .before .before .join-names .ensures)
+    with-field-is _ _ _ _ _ (some (c .before .loop .next)) refl (c .before .before .names-with .ensures)
     (sym (c .before .loop .inv .1 .1 .1) ∙ grown-end _ _ _ _ _ (c .loop-test .left))
 
 pub with-field-spec : {M : Type 1} → statement M
@@ -107,8 +103,7 @@ with-field-spec =
     (tie.spec
     Inv-loop
     μ-loop
-    named-by-requires
-    join-names-requires
+    names-with-requires
     loop-holds
     identifier-requires
     kind-requires

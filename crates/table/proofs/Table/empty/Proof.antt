@@ -1,25 +1,22 @@
--- `table::Table::empty` meets its contract: it is the table of no entries around the list that is none.
+-- `table::Table::empty` meets its contract: it is the table with no sets.
+use mathlib.Core.Path.{ap, _∙_}
+use Rattle.table.specs.Stored.{tableOf}
 use borrow.Author.Needs.{needs}
-use mathlib.Core.Path.{ap}
-use mathlib.Core.Bool.{false}
-use lib.ListN.{replicate}
-use Rattle.rules.specs.Arrays.{padded}
-use Rattle.lists.specs.declared.IdList.{IdList}
-use Rattle.table.specs.declared.Table.{Table}
-use Rattle.table.specs.Stored.{storeTable}
 use Rattle.table.proofs.Table.empty.Statement.{statement}
 use Rattle.table.proofs.Table.empty.Tie as tie
-
--- no entries, with this list in every place
-abbrev around : IdList → Table
-around l = record { count = 0; keys = replicate 32 0; on = replicate 32 false; shown = replicate 32 l; draft = replicate 32 l }
+use Rattle.table.proofs.Table.empty.Reads as reads
+use Rattle.table.proofs.Table.empty.Lts as lts
+use Rattle.sets.proofs.Sets.empty.Reads as empty-reads
+use Rattle.table.proofs.Table.of.Reads as of-reads
 
 empty-requires : tie.Need-empty-requires
 empty-requires c κs = search needs
 
+of-requires : tie.Need-of-requires
+of-requires c κs = search needs
+
 returns : tie.Need-returns
-unfolding storeTable padded
-returns c = ap around (c .empty .ensures)
+returns c = c .of .ensures ∙ ap tableOf (c .before .empty .ensures)
 
 pub empty-spec : {M : Type 1} → statement M
-empty-spec = tie.close (tie.spec empty-requires returns)
+empty-spec = tie.close (tie.spec empty-requires of-requires returns)

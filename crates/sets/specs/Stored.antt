@@ -1,0 +1,78 @@
+-- The one stored form of the sets of a table (document 01, Collecting), and sets with one key more or less.
+use Prim.Native.Nat.{ℕ, _+_, _-_, _≤_, _<_}
+use mathlib.Core.Path.{_≡_}
+use mathlib.Core.Bool.{Bool, true, false, cond, _&&_}
+use mathlib.Core.List.{List, [], map}
+use lib.ListN.{length, getD}
+use lib.Dec.{ltb}
+use Rattle.rules.specs.Arrays.{padded}
+use Rattle.rules.specs.Collecting.{Held, Entries, setsMeet}
+use Rattle.lists.specs.declared.IdList.{IdList}
+use Rattle.lists.specs.Stored.{emptyList, storeMaybe, Holds}
+use Rattle.sets.specs.declared.Sets.{Sets}
+use Rattle.sets.specs.Places.{opened, shut}
+
+unfoldable pub keyIn : Held → ℕ
+keyIn e = e .key
+
+unfoldable pub onIn : Held → Bool
+onIn e = e .state
+
+unfoldable pub shownIn : Held → IdList
+shownIn e = storeMaybe (e .shown)
+
+unfoldable pub draftIn : Held → IdList
+draftIn e = storeMaybe (e .draft)
+
+-- entries in ascending key order from place 0 on, every unused place zero
+unfoldable pub storeSets : Entries → Sets
+storeSets c =
+    record {
+      count = length c;
+      keys = padded 32 0 (map keyIn c);
+      on = padded 32 false (map onIn c);
+      shown = padded 32 emptyList (map shownIn c);
+      draft = padded 32 emptyList (map draftIn c);
+    }
+
+-- what stands for a list past the end of an array
+abbrev pub past : IdList
+past = record { numbers = []; kinds = []; len = 0; named = 0 }
+
+-- each of the first 32 lists is the stored form of one for its key, or of none
+unfoldable pub EachHolds : List ℕ → List IdList → Type 0
+EachHolds keys ls = (i : ℕ) → i < 32 → Holds (getD keys i 0) (getD ls i past)
+
+-- there is no list from a place on
+unfoldable pub NoneFrom : ℕ → List IdList → Type 0
+NoneFrom from ls = (i : ℕ) → i < 32 → from ≤ i → getD ls i past .len ≡ 0
+
+-- sets with one key more at a place, its list open and no set shown; the same where there is no such place
+unfoldable pub openedSets : Sets → ℕ → ℕ → Bool → IdList → Sets
+openedSets t at key on l =
+    cond (ltb at 32 && ltb (t .count) 32)
+    (record {
+      count = t .count + 1;
+      keys = opened at key (t .keys);
+      on = opened at on (t .on);
+      shown = opened at emptyList (t .shown);
+      draft = opened at l (t .draft);
+    })
+    t
+
+-- sets with one key less, the one at a place; the same where no key stands there
+unfoldable pub shutSets : Sets → ℕ → Sets
+shutSets t at =
+    cond (ltb at 32 && ltb at (t .count))
+    (record {
+      count = t .count - 1;
+      keys = shut at 0 (t .keys);
+      on = shut at false (t .on);
+      shown = shut at emptyList (t .shown);
+      draft = shut at emptyList (t .draft);
+    })
+    t
+
+-- the stored form of sets that meet their rules
+unfoldable pub SetsStored : Sets → Type 0
+SetsStored t = (c : Entries) × (setsMeet c ≡ true) × (t ≡ storeSets c)
