@@ -10,7 +10,7 @@ use lib.Dec.{eqb}
 use borrow.Author.Tests.{eqb-true, eqb-false}
 use Rattle.rules.specs.declared.Outcome.the-variants.{Done, ShortBuffer, WrongTable}
 use Rattle.rules.specs.Field.{Pair}
-use Rattle.rules.specs.Collecting.{IdSet, Content, meets, keyWidth}
+use Rattle.rules.specs.Collecting.{IdSet, Content, meets, keyWidth, mostKeys}
 use Rattle.pieces.specs.Air.{Piece, pieceMost, cut, deadLink, pieces, figBytes, blockOf, blocksOf, setBlocks, allBlocks, air}
 use Rattle.rules.proofs.Basics.{cases-bool}
 use Rattle.pieces.proofs.ReadBack.{blocks-length}
@@ -25,7 +25,6 @@ use Rattle.table.proofs.GivenLaws.{sets-are}
 use Rattle.sets.specs.Stored.{storeSets, past}
 use Rattle.sets.specs.Shown.{setIn, shownAs, setsFrom, setsIn}
 use Rattle.sets.proofs.ShownLaws.{shownAt, sets-skip, sets-next, sets-end, sets-stored}
-use Rattle.out.specs.declared.Written.{Written}
 use Rattle.out.specs.Put.{Puts}
 use Rattle.out.specs.Answer.{writtenAs, Outputs}
 use Rattle.out.proofs.Runs.{puts-as}
@@ -93,7 +92,7 @@ blocks-all t n =
 pub air-of : (t : Sets) (c : Content) → meets c ≡ true → t ≡ storeSets (c .sets) → allBlocks (setsFrom t 0 (t .count)) ≡ air c
 unfolding setsIn storeSets air
 air-of t c m e =
-    let k : t .count ≡ min (t .count) 32 = omega (arith, ap (λ (x : Sets). x .count) e, table-rules (c .sets) .0 m .short) in
+    let k : t .count ≡ min (t .count) mostKeys = omega (arith, ap (λ (x : Sets). x .count) e, table-rules (c .sets) .0 m .short) in
     ap (λ (n : ℕ). allBlocks (setsFrom t 0 n)) k ∙ ap allBlocks (ap setsIn e ∙ sets-stored (c .sets) m)
 
 -- ---- the answer

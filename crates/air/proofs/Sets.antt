@@ -10,7 +10,7 @@ use lib.Seq.{slice, slice-empty, take-take}
 use lib.Dec.{eqb}
 use Rattle.rules.specs.Block.{bit}
 use Rattle.rules.specs.Field.{Pair, rds, drm, numberIn, kindIn}
-use Rattle.rules.specs.Collecting.{IdSet, keyWidth}
+use Rattle.rules.specs.Collecting.{IdSet, keyWidth, mostIds}
 use Rattle.lists.specs.Kinds.{hasKind}
 use Rattle.pieces.specs.Air.{cut, deadLink, pieces, pieceMost}
 use Rattle.rules.proofs.Basics.{cases-bool}
@@ -31,7 +31,7 @@ pub record Turn (most : ℕ) (l : IdList) (from : ℕ) (p : Part) : Type 0 where
   pub next : left most (setIn l .items) from ≡ pieceIn (l .numbers) p ∷ left most (setIn l .items) (p .to)
 
 -- a list with arrays of the right length
-module _ (l : IdList) (numbers-long : length (l .numbers) ≡ 128) (kinds-long : length (l .kinds) ≡ 128) (short : l .len ≤ 128) where
+module _ (l : IdList) (numbers-long : length (l .numbers) ≡ mostIds) (kinds-long : length (l .kinds) ≡ mostIds) (short : l .len ≤ mostIds) where
   set-length : length (setIn l .items) ≡ l .len
   unfolding setIn
   set-length = length-pairs-in (l .kinds) (l .numbers) (l .len) ∙ omega arith
@@ -89,8 +89,8 @@ module _ (l : IdList) (numbers-long : length (l .numbers) ≡ 128) (kinds-long :
 
 -- ---- a list that holds what it should for its key
 
-pub part-fits : (key : ℕ) (l : IdList) → length (l .numbers) ≡ 128 → length (l .kinds) ≡ 128 → Holds key l
-    → (from : ℕ) (p : Part) → from < l .len → p ≡ partAt (pieceMost (keyWidth key)) (take (l .len) (l .kinds)) from → Fitting key 128 p
+pub part-fits : (key : ℕ) (l : IdList) → length (l .numbers) ≡ mostIds → length (l .kinds) ≡ mostIds → Holds key l
+    → (from : ℕ) (p : Part) → from < l .len → p ≡ partAt (pieceMost (keyWidth key)) (take (l .len) (l .kinds)) from → Fitting key mostIds p
 unfolding partAt setIn
 part-fits key l nl kl holds from p h e =
     let f : Facts key l = holds-facts key l holds in
@@ -102,7 +102,7 @@ part-fits key l nl kl holds from p h e =
     (kinds-small (keyWidth key) (l .named) (setIn l .items) (f .pairs (λ z. omega arith))) in
     let long : length ks ≡ l .len = kinds-length l nl kl (f .short) in
     let in' : from < length ks = omega arith in
-    subst (Fitting key 128) (sym e)
+    subst (Fitting key mostIds) (sym e)
     (record {
       ahead = omega (arith, range-ahead m ks from (omega arith) in');
       inside = omega (arith, range-inside m ks from (omega arith) in', f .short);

@@ -6,7 +6,7 @@ ghost use Prim.Native.Nat.{_+_, _*_, _/_, _%_, _^_, _≤_, _<_};
 ghost use lib.ListN.{length, take};
 ghost use lib.Seq.{slice};
 ghost use Rattle.rules.specs.Block.{bit};
-ghost use Rattle.rules.specs.Collecting.{keyWidth};
+ghost use Rattle.rules.specs.Collecting.{keyWidth, mostKeys, mostIds};
 ghost use Rattle.pieces.specs.Air.{pieceMost, cut, deadLink, pieces, bigBytes, allBytes, figBytes, blockOf, blocksOf, setBlocks, allBlocks, air};
 ghost use Rattle.lists.specs.Stored.{Holds};
 ghost use Rattle.sets.specs.Stored.{EachHolds};
@@ -98,7 +98,7 @@ fn part_at(kinds: &[u8], len: usize, from: usize, key: u32) -> Part
 
 // How many pieces the identifiers of a list are cut into.
 fn cut_count(list: IdList, key: u32) -> usize
-    requires { ⌜ list .len ≤ 128 ⌝ }
+    requires { ⌜ list .len ≤ mostIds ⌝ }
     ensures { λ r. ⌜ (r ≡ length (cut (pieceMost (keyWidth key)) (setIn list .items))) × (r ≤ list .len) ⌝ }
 {
     let len = list.len;
@@ -114,15 +114,15 @@ fn cut_count(list: IdList, key: u32) -> usize
 
 // How many pieces a set is cut into.
 fn piece_count(list: IdList, key: u32) -> usize
-    requires { ⌜ list .len ≤ 128 ⌝ }
+    requires { ⌜ list .len ≤ mostIds ⌝ }
     ensures { λ r. ⌜ (r ≡ length (pieces (pieceMost (keyWidth key)) (setIn list))) × (r ≤ 130) ⌝ }
 {
     let len = list.len;
     let rds = list.named % 2 == 1;
     let drm = list.named / 2 == 1;
     let n = cut_count(list, key);
-    let r = bit_of(is_dead(1, rds, &list.numbers, &list.kinds, len));
-    let d = bit_of(is_dead(3, drm, &list.numbers, &list.kinds, len));
+    let r = bit_of(is_dead(rules::RDS, rds, &list.numbers, &list.kinds, len));
+    let d = bit_of(is_dead(rules::DRM, drm, &list.numbers, &list.kinds, len));
     n + r + d
 }
 
@@ -141,7 +141,7 @@ fn put_number(out: &mut [u8], at: usize, width: usize, n: u32) -> usize
     requires { ⌜ width ≤ 4 ⌝ }
     ensures { λ r. ⌜ Puts (now (out .entry)) at (bigBytes width n) (now (out .exit)) r ⌝ }
 {
-    let mut p = out::cut_to(at, out.len());
+    let mut p = lists::least(at, out.len());
     let mut k = width;
     while 0 < k {
         k -= 1;
@@ -162,7 +162,7 @@ fn put_numbers(
     requires { ⌜ (width ≤ 4) × (from ≤ to) × (to ≤ length (now numbers)) ⌝ }
     ensures { λ r. ⌜ Puts (now (out .entry)) at (allBytes width (slice from to (now (numbers .entry)))) (now (out .exit)) r ⌝ }
 {
-    let mut p = out::cut_to(at, out.len());
+    let mut p = lists::least(at, out.len());
     let mut i = from;
     while i < to {
         p = put_number(out, p, width, numbers[i]);
@@ -225,7 +225,7 @@ fn put_cut(out: &mut [u8], at: usize, key: u32, on: bool, list: IdList) -> usize
     ensures { λ r. ⌜ Puts (now (out .entry)) at (blocksOf key on (cut (pieceMost (keyWidth key)) (setIn list .items))) (now (out .exit)) r ⌝ }
 {
     let len = list.len;
-    let mut p = out::cut_to(at, out.len());
+    let mut p = lists::least(at, out.len());
     let mut from: usize = 0;
     while from < len {
         let part = part_at(&list.kinds, len, from, key);
@@ -258,7 +258,7 @@ fn put_dead(
         };
         put_block(out, at, key, on, part, &list.numbers)
     } else {
-        out::cut_to(at, out.len())
+        lists::least(at, out.len())
     }
 }
 
@@ -269,15 +269,15 @@ fn put_set(out: &mut [u8], at: usize, key: u32, on: bool, list: IdList) -> usize
 {
     let named = list.named;
     let p = put_cut(out, at, key, on, list);
-    let q = put_dead(out, p, key, on, list, 1, named % 2 == 1);
-    put_dead(out, q, key, on, list, 3, named / 2 == 1)
+    let q = put_dead(out, p, key, on, list, rules::RDS, named % 2 == 1);
+    put_dead(out, q, key, on, list, rules::DRM, named / 2 == 1)
 }
 
 // ---- a table
 
 // How many pieces the sets of the first entries are cut into.
 fn count_all(count: usize, sets: Sets) -> usize
-    requires { ⌜ (count ≤ 32) × EachHolds (sets .keys) (sets .shown) ⌝ }
+    requires { ⌜ (count ≤ mostKeys) × EachHolds (sets .keys) (sets .shown) ⌝ }
     ensures { λ r. ⌜ (32 * r ≡ length (allBlocks (setsFrom sets 0 count))) × (r ≤ 4160) ⌝ }
 {
     let mut n: usize = 0;
@@ -292,7 +292,7 @@ fn count_all(count: usize, sets: Sets) -> usize
 
 // The blocks of these sets at the front of a buffer, and the place after them.
 fn put_all(out: &mut [u8], count: usize, sets: Sets) -> usize
-    requires { ⌜ (count ≤ 32) × EachHolds (sets .keys) (sets .shown) ⌝ }
+    requires { ⌜ (count ≤ mostKeys) × EachHolds (sets .keys) (sets .shown) ⌝ }
     ensures { λ r. ⌜ Puts (now (out .entry)) 0 (allBlocks (setsFrom sets 0 count)) (now (out .exit)) r ⌝ }
 {
     let mut p: usize = 0;

@@ -7,10 +7,10 @@ use mathlib.Core.Bool.{Bool, true, false, cond}
 use mathlib.Core.List.{List, [], _∷_, _++_, map}
 use lib.ListN.{length, take, drop, length-take, length-drop}
 use Rattle.rules.specs.declared.Outcome.the-variants.{WrongFig}
-use Rattle.rules.specs.Block.{item, Walk, whole, broken, after, walk, Fig as FigOf, figs}
-use Rattle.rules.specs.Field.{Field as FieldOf, fieldAt}
+use Rattle.rules.specs.Block.{Placed, Walk, whole, broken, after, walk, Fig as FigOf, figAt, figs}
+use Rattle.rules.specs.Field.{isLinking, fieldAt, fieldsOf}
 use Rattle.rules.specs.Outcomes.{joined, judgeFigs}
-use Rattle.rules.proofs.Taken.{walk-item, walk-end, walk-wrong, field-item}
+use Rattle.rules.proofs.Taken.{walk-item, walk-end, walk-wrong, block-item, block-wrong, field-item}
 use Rattle.figs.specs.declared.Cursor.{Cursor}
 use Rattle.figs.specs.declared.FigStep.{FigStep}
 use Rattle.figs.specs.declared.FigStep.the-variants.{Fig, End as FigEnd, Wrong as FigWrong}
@@ -24,10 +24,10 @@ use Rattle.field.proofs.Laws.{fieldStepAt-means, wrong-value-means, empty-start
 use Rattle.block.specs.declared.Spots.{Spots}
 use Rattle.block.specs.declared.Pushed.{Pushed}
 use Rattle.block.specs.declared.Judged.{Judged}
-use Rattle.block.specs.Judged.{Located, spotOf, onItem, standing, locatedAt, locatedOf, locatedFrom, located, noSpots, storeSpots, judgedAs}
-use Rattle.block.specs.Faults.{faultIn, faultOf, judgeFrom, locatedIn, CanPush, Pushes, Concludes, JudgesFigs}
-use Rattle.block.proofs.Walks.{joined-none, joined-after}
-use Rattle.block.proofs.Verdicts.{judge-after, judge-broken, faultOf-range, judgeFigsFrom, figs-first, figs-after, figs-none, figs-wrong}
+use Rattle.block.specs.Judged.{Located, spotOf, mapWalk, standing, locatedOf, located, noSpots, storeSpots, judgedAs}
+use Rattle.block.specs.Faults.{faultIn, faultOf, judgeFrom, locatedFrom, locatedIn, CanPush, Pushes, Concludes, JudgesFigs}
+use Rattle.block.proofs.Walks.{joined-none, joined-after, map-after}
+use Rattle.block.proofs.Verdicts.{judge-after, judge-broken, faultOf-range, judgeFigsFrom, figs-first, figs-after, figs-over, figs-none, figs-wrong}
 use Rattle.block.proofs.Storing.{stored-none, withSpot, stored-more}
 
 -- ---- a field that is found
@@ -39,16 +39,33 @@ body fib start stop = take (stop - start) (drop start fib)
 body-length : (fib : List ℕ) (start stop : ℕ) → length fib ≡ 32 → stop ≤ 30 → length (body fib start stop) ≡ stop - start
 body-length fib start stop l h = length-take (stop - start) (drop start fib) ∙ omega (arith, length-drop start fib)
 
-module _ (bytes : List ℕ) (at : ℕ) where
-  -- what the rules find at a place, by what the code does
-  stands-as : (s : FieldStep) → fieldStepAt bytes at ≡ s → fieldAt bytes at ≡ found bytes s
-  stands-as s e = sym (fieldStepAt-means bytes at) ∙ ap (found bytes) e
+-- what the rules find at a place, by what the code does
+stands-as : (bytes : List ℕ) (at : ℕ) (s : FieldStep) → fieldStepAt bytes at ≡ s → fieldAt bytes at ≡ found bytes s
+stands-as bytes at s e = sym (fieldStepAt-means bytes at) ∙ ap (found bytes) e
 
-  -- and with where it stands
-  located-as : (start stop : ℕ) (s : FieldStep) → fieldStepAt bytes at ≡ s
-      → locatedAt bytes start stop at ≡ onItem (λ f next. standing start stop at f) (found bytes s)
-  unfolding locatedAt
-  located-as start stop s e = ap (onItem (λ (f : FieldOf) (next : ℕ). standing start stop at f)) (stands-as s e)
+-- a field that the code finds at a place of a body, with its spot
+abbrev spotted : List ℕ → ℕ → ℕ → ℕ → Field → Located
+spotted fib start stop at f = standing start stop (record { place = start + at; what = meaning (body fib start stop) f })
+
+-- the fields of a body from a place on, by what the code finds there
+module _ (fib : List ℕ) (start stop n at : ℕ) where
+  from-found : (f : Field) (next : ℕ) → fieldStepAt (body fib start stop) at ≡ Found f next
+      → locatedFrom fib start stop (suc n) at ≡ after (spotted fib start stop at f) (locatedFrom fib start stop n next)
+  unfolding locatedFrom found
+  from-found f next e =
+      ap (mapWalk (standing start stop))
+      (walk-item start (fieldAt (body fib start stop)) n at _ next (stands-as (body fib start stop) at (Found f next) e))
+      ∙ map-after (standing start stop) _ (walk start (fieldAt (body fib start stop)) n next)
+
+  from-end : fieldStepAt (body fib start stop) at ≡ End → locatedFrom fib start stop (suc n) at ≡ whole []
+  unfolding locatedFrom found mapWalk
+  from-end e =
+      ap (mapWalk (standing start stop)) (walk-end start (fieldAt (body fib start stop)) n at (stands-as (body fib start stop) at End e))
+
+  from-wrong : fieldStepAt (body fib start stop) at ≡ Wrong → locatedFrom fib start stop (suc n) at ≡ broken (start + at)
+  unfolding locatedFrom found mapWalk
+  from-wrong e =
+      ap (mapWalk (standing start stop)) (walk-wrong start (fieldAt (body fib start stop)) n at (stands-as (body fib start stop) at Wrong e))
 
 fault-means : (bytes : List ℕ) (f : Field) → faultIn f ≡ faultOf (meaning bytes f)
 unfolding faultIn faultOf
@@ -71,7 +88,7 @@ pub record FieldsSoFar (fib : List ℕ) (start stop fault₀ : ℕ) (spots₀ : 
       × (spots ≡ storeSpots (map spotOf more))
       × ((rest : Walk Located)
       → judgeFrom fault₀ ls (joined (locatedIn fib start stop) rest)
-      ≡ judgeFrom fault more (joined (walk (locatedAt (body fib start stop) start stop) n at) rest))
+      ≡ judgeFrom fault more (joined (locatedFrom fib start stop n at) rest))
 
 -- before the first field
 pub fields-first : (fib : List ℕ) (start stop : ℕ) (before : Pushed) → CanPush fib start stop before
@@ -103,12 +120,12 @@ module _ (fib : List ℕ) (start stop fault₀ : ℕ) (spots₀ : Spots) (fault 
     fewer-is = spare (so .fields ls q .1) (so .fields ls q .2) .1
 
     -- the answer from here, by what the walk comes to
-    fields-judged : (w : Walk Located) → walk (locatedAt (body fib start stop) start stop) (suc fewer) at ≡ w → (rest : Walk Located)
+    fields-judged : (w : Walk Located) → locatedFrom fib start stop (suc fewer) at ≡ w → (rest : Walk Located)
         → judgeFrom fault₀ ls (joined (locatedIn fib start stop) rest) ≡ judgeFrom fault (so .fields ls q .0) (joined w rest)
     fields-judged w e rest =
         so .fields ls q .4 rest
         ∙ ap (λ (v : Walk Located). judgeFrom fault (so .fields ls q .0) (joined v rest))
-        (ap (λ (k : ℕ). walk (locatedAt (body fib start stop) start stop) k at) fewer-is ∙ e)
+        (ap (λ (k : ℕ). locatedFrom fib start stop k at) fewer-is ∙ e)
 
   module _ (f : Field) (next : ℕ) (e : fieldStepAt (body fib start stop) at ≡ Found f next) where
     stands : (at + 2 ≤ next) × (start + next ≤ stop)
@@ -125,7 +142,6 @@ module _ (fib : List ℕ) (start stop fault₀ : ℕ) (spots₀ : Spots) (fault 
 
     -- a field more
     pub fields-next : FieldsSoFar fib start stop fault₀ spots₀ (min fault (faultIn f)) (withSpot spots (record { start = start; end = stop; place = at })) next
-    unfolding found onItem
     fields-next =
         let range = faultOf-range (meaning (body fib start stop) f) in
         let same = fault-means (body fib start stop) f in
@@ -136,53 +152,52 @@ module _ (fib : List ℕ) (start stop fault₀ : ℕ) (spots₀ : Spots) (fault 
           most = omega (arith, so .most);
           fields = λ ls q.
               let more = so .fields ls q .0 in
-              let l = standing start stop at (meaning (body fib start stop) f) in
               let n = fewer ls q in
-              let at-place = locatedAt (body fib start stop) start stop in
-              let here = walk-item at-place n at l next (located-as (body fib start stop) at start stop (Found f next) e) in (
+              let l = spotted fib start stop at f in
+              let w = locatedFrom fib start stop n next in
+              let place : at ≡ start + at - start = omega arith in (
                 more ++ l ∷ [],
                 n,
                 omega (arith, stands, so .fields ls q .2, fewer-is ls q),
-                stored-more spots more l (so .fields ls q .3) field-room,
-                λ rest. fields-judged ls q _ here rest
-                    ∙ ap (judgeFrom fault more) (joined-after l (walk at-place n next) rest)
-                    ∙ judge-after fault more l (joined (walk at-place n next) rest)
-                    ∙ ap (λ (k : ℕ). judgeFrom (min fault k) (more ++ l ∷ []) (joined (walk at-place n next) rest)) (sym same),
+                ap (λ (p : ℕ). withSpot spots (record { start = start; end = stop; place = p })) place
+                    ∙ stored-more spots more l (so .fields ls q .3) field-room,
+                λ rest. fields-judged ls q _ (from-found fib start stop n at f next e) rest
+                    ∙ ap (judgeFrom fault more) (joined-after l w rest)
+                    ∙ judge-after fault more l (joined w rest)
+                    ∙ ap (λ (k : ℕ). judgeFrom (min fault k) (more ++ l ∷ []) (joined w rest)) (sym same),
               );
         }
 
   -- at the end of the body nothing of it is to come
   pub fields-end : fieldStepAt (body fib start stop) at ≡ End
       → Pushes fib start stop (record { fault = fault₀; spots = spots₀ }) (record { fault = fault; spots = spots })
-  unfolding found onItem
   fields-end e =
       record {
         room = omega (arith, so .room, so .within);
         least = so .least;
         most = so .most;
-        fields = λ ls q.
-            let here = walk-end (locatedAt (body fib start stop) start stop) (fewer ls q) at (located-as (body fib start stop) at start stop End e) in (
-              so .fields ls q .0,
-              so .fields ls q .3,
-              λ rest. fields-judged ls q (whole []) here rest ∙ ap (judgeFrom fault (so .fields ls q .0)) (joined-none rest),
-            );
+        fields = λ ls q. (
+          so .fields ls q .0,
+          so .fields ls q .3,
+          λ rest. fields-judged ls q (whole []) (from-end fib start stop (fewer ls q) at e) rest
+              ∙ ap (judgeFrom fault (so .fields ls q .0)) (joined-none rest),
+        );
       }
 
   -- at a field that does not fit the fault is 4, whatever comes
   pub fields-wrong : fieldStepAt (body fib start stop) at ≡ Wrong
       → Pushes fib start stop (record { fault = fault₀; spots = spots₀ }) (record { fault = 4; spots = spots })
-  unfolding found onItem
   fields-wrong e =
       record {
         room = omega (arith, so .room, so .within);
         least = omega arith;
         most = omega arith;
-        fields = λ ls q.
-            let here = walk-wrong (locatedAt (body fib start stop) start stop) (fewer ls q) at (located-as (body fib start stop) at start stop Wrong e) in (
-              so .fields ls q .0,
-              so .fields ls q .3,
-              λ rest. fields-judged ls q (broken at) here rest ∙ judge-broken fault (so .fields ls q .0) (so .fields ls q .0) at rest,
-            );
+        fields = λ ls q. (
+          so .fields ls q .0,
+          so .fields ls q .3,
+          λ rest. fields-judged ls q (broken (start + at)) (from-wrong fib start stop (fewer ls q) at e) rest
+              ∙ judge-broken fault (so .fields ls q .0) (so .fields ls q .0) (start + at) rest,
+        );
       }
 
 -- ---- the loop over the FIGs of a block
@@ -197,10 +212,10 @@ pub record FigsSoFar (fib : List ℕ) (found : Pushed) (at : ℕ) : Type 0 where
   pub stored : found .spots ≡ storeSpots (map spotOf fields)
   pub left : ℕ
   pub spare : 30 < at + left
-  pub same : judgedAs (judgeFigs (figs fib)) (located fib) ≡ judgeFigsFrom (found .fault) fields (walk (locatedFrom fib) left at)
+  pub same : judgedAs (judgeFigs (figs fib)) (located fib) ≡ judgeFigsFrom (found .fault) fields (walk 0 (figAt fib) left at)
 
 pub figs-begin : (fib : List ℕ) (found : Pushed) (at : ℕ) → found .fault ≡ 7 → found .spots ≡ noSpots → at ≡ 0 → FigsSoFar fib found at
-unfolding storeSpots
+unfolding storeSpots figs
 figs-begin fib found at f s a =
     let none : found .spots .count ≡ 0 = ap (λ (x : Spots). x .count) (s ∙ stored-none) in
     record {
@@ -212,7 +227,7 @@ figs-begin fib found at f s a =
       stored = s ∙ stored-none;
       left = 31;
       spare = omega arith;
-      same = figs-first fib ∙ ap₂ (λ (k p : ℕ). judgeFigsFrom k [] (walk (locatedFrom fib) 31 p)) (sym f) (sym a);
+      same = figs-first fib ∙ ap₂ (λ (k p : ℕ). judgeFigsFrom k [] (walk 0 (figAt fib) 31 p)) (sym f) (sym a);
     }
 
 module _ (fib : List ℕ) (found : Pushed) (at : ℕ) (block : length fib ≡ 32) (so : FigsSoFar fib found at) where
@@ -224,36 +239,34 @@ module _ (fib : List ℕ) (found : Pushed) (at : ℕ) (block : length fib ≡ 32
   less : ℕ
   less = fig-spare (so .left) (so .spare) .0
 
-  figs-from : (w : Walk (Walk Located)) → walk (locatedFrom fib) (suc less) at ≡ w
+  figs-from : (w : Walk (Placed FigOf)) → walk 0 (figAt fib) (suc less) at ≡ w
       → judgedAs (judgeFigs (figs fib)) (located fib) ≡ judgeFigsFrom (found .fault) (so .fields) w
   unfolding less
   figs-from w e =
       so .same
-      ∙ ap (λ (k : ℕ). judgeFigsFrom (found .fault) (so .fields) (walk (locatedFrom fib) k at)) (fig-spare (so .left) (so .spare) .1)
+      ∙ ap (λ (k : ℕ). judgeFigsFrom (found .fault) (so .fields) (walk 0 (figAt fib) k at)) (fig-spare (so .left) (so .spare) .1)
       ∙ ap (judgeFigsFrom (found .fault) (so .fields)) e
 
-  -- the fields of the FIG that the rules find at this place, by what the code does
-  fig-as : (s : FigStep) → stepAt fib at ≡ s → locatedFrom fib at ≡ onItem (λ fig next. locatedOf (at + 1) next fig) (figFound fib s)
-  unfolding locatedFrom
-  fig-as s e =
-      ap (onItem (λ (fig : FigOf) (next : ℕ). locatedOf (at + 1) next fig)) (sym (stepAt-means fib at block) ∙ ap (figFound fib) e)
+  -- what the rules find at this place, by what the code does
+  fig-as : (s : FigStep) → stepAt fib at ≡ s → figAt fib at ≡ figFound fib s
+  fig-as s e = sym (stepAt-means fib at block) ∙ ap (figFound fib) e
 
   -- at the end of the list
   pub figs-end : stepAt fib at ≡ FigEnd → (r : Judged) → Concludes found r → JudgesFigs fib r
-  unfolding figFound onItem JudgesFigs Concludes
+  unfolding figFound JudgesFigs Concludes
   figs-end e r c =
       c (so .fields) (so .stored)
-      ∙ sym (figs-from (whole []) (walk-end (locatedFrom fib) less at (fig-as FigEnd e)) ∙ figs-none (found .fault) (so .fields) (so .most))
+      ∙ sym (figs-from (whole []) (walk-end 0 (figAt fib) less at (fig-as FigEnd e)) ∙ figs-none (found .fault) (so .fields) (so .most))
 
   -- at a FIG whose length is wrong
   pub figs-break : stepAt fib at ≡ FigWrong → (r : Judged) → r ≡ record { outcome = WrongFig; spots = noSpots } → JudgesFigs fib r
-  unfolding figFound onItem JudgesFigs judgedAs
+  unfolding figFound JudgesFigs judgedAs
   figs-break e r a =
-      a ∙ sym (figs-from (broken at) (walk-wrong (locatedFrom fib) less at (fig-as FigWrong e)) ∙ figs-wrong (found .fault) (so .fields) at)
+      a ∙ sym (figs-from (broken at) (block-wrong (figAt fib) less at (fig-as FigWrong e)) ∙ figs-wrong (found .fault) (so .fields) at)
 
   module _ (kind start stop : ℕ) (next : Cursor) (e : stepAt fib at ≡ Fig kind start stop next) where
-    fig : FigOf
-    fig = record { type = kind; body = body fib start stop }
+    fig : Placed FigOf
+    fig = record { place = at; what = record { type = kind; body = body fib start stop } }
 
     lies : Lies fib at start stop next
     lies = stepAt-range fib at kind start stop next e
@@ -275,25 +288,27 @@ module _ (fib : List ℕ) (found : Pushed) (at : ℕ) (block : length fib ≡ 32
           most = so .most;
         }
 
-    steps : walk (locatedFrom fib) (suc less) at ≡ after (locatedOf start stop fig) (walk (locatedFrom fib) less (next .at))
-    unfolding figFound onItem fig
-    steps =
-        walk-item (locatedFrom fib) less at (locatedOf start stop fig) (next .at)
-        (fig-as (Fig kind start stop next) e
-        ∙ ap₂ (λ (a b : ℕ). item (locatedOf a b fig) (next .at)) (sym (lies .begins)) (lies .goes-on))
+    steps : walk 0 (figAt fib) (suc less) at ≡ after fig (walk 0 (figAt fib) less (next .at))
+    unfolding figFound fig
+    steps = block-item (figAt fib) less at (fig .what) (next .at) (fig-as (Fig kind start stop next) e)
 
     still : 30 < next .at + less
     unfolding less
     still = omega (arith, so .spare, fig-spare (so .left) (so .spare) .1, lies .holds, lies .begins, lies .goes-on)
 
-    fields-linking : linking kind (body fib start stop) ≡ true → locatedOf start stop fig ≡ locatedIn fib start stop
-    unfolding linking locatedOf locatedIn fig
-    fields-linking l =
-        rw l (ap (λ (k : ℕ). walk (locatedAt (body fib start stop) start stop) k 1) (body-length fib start stop block (lies .within)))
+    -- the fields of this FIG are those of its body
+    fig-fields : locatedOf fig ≡ locatedIn fib start stop
+    unfolding locatedOf fieldsOf locatedIn locatedFrom fig
+    fig-fields =
+        let n = body-length fib start stop block (lies .within) in
+        let a : at + 1 ≡ start = sym (lies .begins) in
+        let b : at + 1 + length (body fib start stop) ≡ stop = omega (arith, n, lies .begins, lies .holds) in
+        λ i. mapWalk (standing (a i) (b i)) (walk (a i) (fieldAt (body fib start stop)) (n i) 1)
 
-    fields-none : linking kind (body fib start stop) ≡ false → locatedOf start stop fig ≡ whole []
-    unfolding linking locatedOf fig
-    fields-none l = rw l
+    -- it carries linking, by the rules and by the code
+    fig-linking : isLinking (fig .what) ≡ linking kind (body fib start stop)
+    unfolding linking fig
+    fig-linking = refl
 
     -- after a FIG that carries linking
     pub figs-next : linking kind (body fib start stop) ≡ true → (more : Pushed) → Pushes fib start stop found more → FigsSoFar fib more (next .at)
@@ -309,8 +324,8 @@ module _ (fib : List ℕ) (found : Pushed) (at : ℕ) (block : length fib ≡ 32
           left = less;
           spare = still;
           same = figs-from _ steps
-              ∙ figs-after (found .fault) (more .fault) (so .fields) (w .0) (locatedOf start stop fig) (walk (locatedFrom fib) less (next .at))
-              (λ rest. ap (λ (v : Walk Located). judgeFrom (found .fault) (so .fields) (joined v rest)) (fields-linking l) ∙ w .2 rest);
+              ∙ figs-after (found .fault) (more .fault) (so .fields) (w .0) fig (walk 0 (figAt fib) less (next .at)) (fig-linking ∙ l)
+              (λ rest. ap (λ (v : Walk Located). judgeFrom (found .fault) (so .fields) (joined v rest)) fig-fields ∙ w .2 rest);
         }
 
     -- after any other
@@ -325,7 +340,5 @@ module _ (fib : List ℕ) (found : Pushed) (at : ℕ) (block : length fib ≡ 32
           stored = so .stored;
           left = less;
           spare = still;
-          same = figs-from _ steps
-              ∙ figs-after (found .fault) (found .fault) (so .fields) (so .fields) (locatedOf start stop fig) (walk (locatedFrom fib) less (next .at))
-              (λ rest. ap (judgeFrom (found .fault) (so .fields)) (ap (λ (v : Walk Located). joined v rest) (fields-none l) ∙ joined-none rest));
+          same = figs-from _ steps ∙ figs-over (found .fault) (so .fields) fig (walk 0 (figAt fib) less (next .at)) (fig-linking ∙ l);
         }

@@ -4,16 +4,16 @@
 use Prim.Native.Nat.{ℕ, zero, suc, _+_, _-_, _≤_, _<_}
 use native.Mathlib.Nat.{le-of-suc-le-suc, not-suc-le-zero}
 use native.Mathlib.Omega.{arith}
-use mathlib.Core.Path.{_≡_, refl, sym, ap, _∙_, subst, subst₂}
+use mathlib.Core.Path.{_≡_, refl, sym, ap, ap₂, _∙_, subst, subst₂}
 use mathlib.Core.List.{List, [], _∷_, map}
 use lib.ListN.{length, getD, take, drop, length-map}
 use Rattle.rules.specs.declared.Outcome.{Outcome}
 use Rattle.rules.specs.declared.Outcome.the-variants.{Done, NotABlock}
-use Rattle.rules.specs.Block.{item, Walk, walk, Fig, figAt}
-use Rattle.rules.specs.Field.{Field as FieldOf, isLinking, fieldAt}
+use Rattle.rules.specs.Block.{item, Placed, whatOf, Walk, whole, Fig, figs}
+use Rattle.rules.specs.Field.{Field as FieldOf, isLinking, fieldAt, fieldsOf}
 use Rattle.rules.specs.Outcomes.{numberOf, Verdict, taken, refused, noBlock, verdict}
-use Rattle.rules.proofs.Basics.{Every, cond-both}
-use Rattle.rules.proofs.Taken.{end-item, wrong-item, item-along, FigStands, fig-item, taken-block, taken-few}
+use Rattle.rules.proofs.Basics.{Every, every-imp, every-map, cond-both}
+use Rattle.rules.proofs.Taken.{end-item, wrong-item, item-along, FigStands, figs-every, fields-every, taken-block, taken-few}
 use Rattle.rules.proofs.Arrays.{getD-padded}
 use Rattle.rules.proofs.LinkageLaws.{Refused, Refusal, full-refusal, refused-full}
 use Rattle.field.specs.declared.FieldStep.{FieldStep}
@@ -23,8 +23,8 @@ use Rattle.field.proofs.Laws.{fieldStepAt-means}
 use Rattle.block.specs.declared.Spot.{Spot}
 use Rattle.block.specs.declared.Spots.{Spots}
 use Rattle.block.specs.declared.Judged.{Judged}
-use Rattle.block.specs.Judged.{nothing, fieldOr, fieldIn, Located, spotOf, fieldOf, itemsOf, standing, locatedAt, locatedOf, locatedFrom, located, noSpot, noSpots, storeSpots, judgedAs, judged}
-use Rattle.block.proofs.Walks.{on-item-has, items-every, joined-all-every}
+use Rattle.block.specs.Judged.{nothing, fieldOr, fieldIn, Located, spotOf, fieldOf, itemsOf, standing, locatedOf, allLocated, located, noSpot, noSpots, storeSpots, judgedAs, judged}
+use Rattle.block.proofs.Walks.{items-map, items-every, joined-every}
 use Rattle.block.proofs.Verdicts.{located-fields}
 
 -- the bytes of a block that a spot's field stands in: its FIG's body
@@ -44,14 +44,14 @@ abbrev pub noField : FieldOf
 noField = meaning [] nothing
 
 -- spots say these fields, in order
-pub record Placed (fib : List ℕ) (spots : Spots) (fs : List FieldOf) : Type 0 where
+pub record SpotsAre (fib : List ℕ) (spots : Spots) (fs : List FieldOf) : Type 0 where
   pub count : spots .count ≡ length fs
   pub few : length fs ≤ 14
   pub each : (i : ℕ) → i < length fs → SpotIs fib (getD (spots .spots) i noSpot) (getD fs i noField)
 
 -- an answer says a verdict on a block: done, and all the fields; or the outcome that refuses, and none
 pub data JudgedAs (fib : List ℕ) (v : Verdict) (r : Judged) : Type 0 where
-  isTaken : (fs : List FieldOf) → v ≡ taken fs → r .outcome ≡ Done → Placed fib (r .spots) fs → JudgedAs fib v r
+  isTaken : (fs : List FieldOf) → v ≡ taken fs → r .outcome ≡ Done → SpotsAre fib (r .spots) fs → JudgedAs fib v r
   isRefused : (o : Outcome) → v ≡ refused o → r .outcome ≡ o → r .spots .count ≡ 0 → JudgedAs fib v r
   isNoBlock : v ≡ noBlock → r .outcome ≡ NotABlock → r .spots .count ≡ 0 → JudgedAs fib v r
 
@@ -65,65 +65,74 @@ found-item bytes f next (Found g n) e = (item-along (λ (x : FieldOf) (m : ℕ).
 found-item bytes f next End e = end-item f next e
 found-item bytes f next Wrong e = wrong-item f next e
 
--- a field that is located is said by its spot
+-- a field that is located is said by its spot, and the spot's place in the block is the field's
 abbrev Stands : List ℕ → Located → Type 0
-Stands fib l = SpotIs fib (l .spot) (l .field)
+Stands fib l = SpotIs fib (l .spot) (l .field .what) × (l .spot .start + l .spot .place ≡ l .field .place)
 
-module _ (fib bytes : List ℕ) (start stop : ℕ) (ordered : start ≤ stop) (inside : stop ≤ 30)
-    (part : bytes ≡ take (stop - start) (drop start fib)) where
-  stands-at : (place : ℕ) (f : FieldOf) (next : ℕ) → fieldAt bytes place ≡ item f next → Stands fib (standing start stop place f)
-  unfolding fieldIn
-  stands-at place f next e =
-      let bytes' = take (stop - start) (drop start fib) in
-      let there = fieldStepAt-means bytes' place ∙ ap (λ (b : List ℕ). fieldAt b place) (sym part) ∙ e in
-      let w = found-item bytes' f next (fieldStepAt bytes' place) there in
-      record { ordered = ordered; inside = inside; means = w .0; found = w .1 }
-
-  field-stands : (place : ℕ) (l : Located) (next : ℕ) → locatedAt bytes start stop place ≡ item l next → Stands fib l
-  unfolding locatedAt
-  field-stands place l next e = on-item-has (Stands fib) (λ f n. standing start stop place f) (fieldAt bytes place) (stands-at place) l next e
+stands-at : (fib bytes : List ℕ) (start stop : ℕ) → start ≤ stop → stop ≤ 30 → bytes ≡ take (stop - start) (drop start fib)
+    → (place : ℕ) (f : Placed FieldOf) (next : ℕ) → fieldAt bytes place ≡ item (f .what) next → f .place ≡ start + place
+    → Stands fib (standing start stop f)
+unfolding fieldIn
+stands-at fib bytes start stop ordered inside part place f next e at =
+    let bytes' = take (stop - start) (drop start fib) in
+    let p : f .place - start ≡ place = omega arith in
+    let there = fieldStepAt-means bytes' (f .place - start) ∙ ap₂ fieldAt (sym part) p ∙ e in
+    let w = found-item bytes' (f .what) next (fieldStepAt bytes' (f .place - start)) there in
+    (record { ordered = ordered; inside = inside; means = w .0; found = w .1 }, omega arith)
 
 -- ---- the fields of a block
 
-fig-stands : (fib : List ℕ) (p : ℕ) (fig : Fig) (q : ℕ) → FigStands fib p fig q → Every (Stands fib) (itemsOf (locatedOf (p + 1) q fig))
-unfolding locatedOf itemsOf
-fig-stands fib p fig q s =
-    let n : length (fig .body) ≡ q - (p + 1) = omega (arith, s .ends) in
-    let part = s .part ∙ ap (λ (k : ℕ). take k (drop (p + 1) fib)) n in
-    cond-both (λ (w : Walk Located). Every (Stands fib) (itemsOf w)) (isLinking fig) _ _
-    (items-every (Stands fib) (locatedAt (fig .body) (p + 1) q)
-    (field-stands fib (fig .body) (p + 1) q (omega (arith, s .ends)) (s .inside) part) (length (fig .body)) 1)
-    tt
+fig-stands : (fib : List ℕ) (fig : Placed Fig) (q : ℕ) → FigStands fib (fig .place) (fig .what) q → Every (Stands fib) (itemsOf (locatedOf fig))
+unfolding locatedOf
+fig-stands fib fig q s =
+    let start = fig .place + 1 in
+    let stop = start + length (fig .what .body) in
+    let n : length (fig .what .body) ≡ stop - start = omega arith in
+    let part = s .part ∙ ap (λ (k : ℕ). take k (drop start fib)) n in
+    subst (Every (Stands fib)) (sym (items-map (standing start stop) (fieldsOf fig)))
+    (every-map (Stands fib) (standing start stop) (itemsOf (fieldsOf fig))
+    (items-every (λ f. Stands fib (standing start stop f)) (fieldsOf fig)
+    (fields-every (λ f. Stands fib (standing start stop f)) fig
+    (stands-at fib (fig .what .body) start stop (omega arith) (omega (arith, s .ends, s .inside)) part))))
 
-module _ (fib : List ℕ) (block : length fib ≡ 32) where
-  from-stands : (p : ℕ) (w : Walk Located) (q : ℕ) → locatedFrom fib p ≡ item w q → Every (Stands fib) (itemsOf w)
-  unfolding locatedFrom
-  from-stands p w q e =
-      on-item-has (λ w. Every (Stands fib) (itemsOf w)) (λ fig n. locatedOf (p + 1) n fig) (figAt fib p)
-      (λ fig n h. fig-stands fib p fig n (fig-item fib p fig n block h)) w q e
+all-stand : (fib : List ℕ) (gs : List (Placed Fig)) → Every (λ fig. Every (Stands fib) (itemsOf (locatedOf fig))) gs
+    → Every (Stands fib) (itemsOf (allLocated gs))
+unfolding allLocated itemsOf
+all-stand fib [] e = tt
+all-stand fib (fig ∷ gs) e =
+    cond-both (λ (w : Walk Located). Every (Stands fib) (itemsOf w)) (isLinking (fig .what)) _ _
+    (joined-every (Stands fib) (locatedOf fig) (allLocated gs) (e .0) (all-stand fib gs (e .1)))
+    (all-stand fib gs (e .1))
 
-  located-stands : Every (Stands fib) (located fib)
-  unfolding located
-  located-stands =
-      joined-all-every (Stands fib) (itemsOf (walk (locatedFrom fib) 31 0))
-      (items-every (λ w. Every (Stands fib) (itemsOf w)) (locatedFrom fib) from-stands 31 0)
+located-stands : (fib : List ℕ) (gs : List (Placed Fig)) → length fib ≡ 32 → figs fib ≡ whole gs → Every (Stands fib) (located fib)
+unfolding located itemsOf
+located-stands fib gs l w =
+    subst (λ (v : Walk (Placed Fig)). Every (Stands fib) (itemsOf (allLocated (itemsOf v)))) (sym w)
+    (all-stand fib gs (figs-every (λ fig. Every (Stands fib) (itemsOf (locatedOf fig))) fib (fig-stands fib) gs l w))
+
+-- the place of a field in the block, as its spot says it, is its place by the rules
+pub located-places : (fib : List ℕ) (fs : List FieldOf) → verdict fib ≡ taken fs
+    → Every (λ l. l .spot .start + l .spot .place ≡ l .field .place) (located fib)
+located-places fib fs v =
+    let b = taken-block fib fs v in
+    every-imp (Stands fib) _ (λ l s. s .1) (located fib) (located-stands fib (b .parts) (b .size) (b .walked))
 
 -- ---- the answer
 
-each-placed : (fib : List ℕ) (ls : List Located) → Every (Stands fib) ls → (i : ℕ) → i < length ls
-    → SpotIs fib (getD (map spotOf ls) i noSpot) (getD (map fieldOf ls) i noField)
-each-placed fib [] e i h = absurd (not-suc-le-zero h)
-each-placed fib (l ∷ ls) e zero h = e .0
-each-placed fib (l ∷ ls) e (suc i) h = each-placed fib ls (e .1) i (le-of-suc-le-suc h)
+each-stands : (fib : List ℕ) (ls : List Located) → Every (Stands fib) ls → (i : ℕ) → i < length ls
+    → SpotIs fib (getD (map spotOf ls) i noSpot) (getD (map whatOf (map fieldOf ls)) i noField)
+each-stands fib [] e i h = absurd (not-suc-le-zero h)
+each-stands fib (l ∷ ls) e zero h = e .0 .0
+each-stands fib (l ∷ ls) e (suc i) h = each-stands fib ls (e .1) i (le-of-suc-le-suc h)
 
 -- the spots of a taken block say its fields
-placed : (fib : List ℕ) (fs : List FieldOf) → verdict fib ≡ taken fs → Placed fib (storeSpots (map spotOf (located fib))) fs
+spots-are : (fib : List ℕ) (fs : List FieldOf) → verdict fib ≡ taken fs → SpotsAre fib (storeSpots (map spotOf (located fib))) fs
 unfolding storeSpots
-placed fib fs v =
+spots-are fib fs v =
     let b = taken-block fib fs v in
     let ls = located fib in
-    let all : map fieldOf ls ≡ fs = located-fields fib (b .parts) fs (b .walked) (b .filled) in
-    let many : length ls ≡ length fs = sym (length-map ls fieldOf) ∙ ap length all in
+    let all : map whatOf (map fieldOf ls) ≡ fs = ap (map whatOf) (located-fields fib (b .parts) (b .fields) (b .walked) (b .filled)) ∙ b .are in
+    let many : length ls ≡ length fs = sym (length-map (map fieldOf ls) whatOf ∙ length-map ls fieldOf) ∙ ap length all in
     let spots : length (map spotOf ls) ≡ length fs = length-map ls spotOf ∙ many in
     record {
       count = spots;
@@ -132,12 +141,12 @@ placed fib fs v =
           subst₂ (λ (x : Spot) (y : FieldOf). SpotIs fib x y)
           (sym (getD-padded 14 noSpot noSpot (map spotOf ls) i (omega arith)))
           (ap (λ (gs : List FieldOf). getD gs i noField) all)
-          (each-placed fib ls (located-stands fib (b .size)) i (omega arith));
+          (each-stands fib ls (located-stands fib (b .parts) (b .size) (b .walked)) i (omega arith));
     }
 
 said-as : (fib : List ℕ) (v : Verdict) → verdict fib ≡ v → JudgedAs fib v (judgedAs v (located fib))
 unfolding judgedAs noSpots
-said-as fib (taken fs) e = isTaken fs refl refl (placed fib fs e)
+said-as fib (taken fs) e = isTaken fs refl refl (spots-are fib fs e)
 said-as fib (refused o) e = isRefused o refl refl refl
 said-as fib noBlock e = isNoBlock refl refl refl
 
@@ -161,7 +170,7 @@ pub data JudgeAnswer (fib : List ℕ) (r : Judged) : Type 0 where
 
 answer-as : (fib : List ℕ) (v : Verdict) → verdict fib ≡ v → JudgeAnswer fib (judgedAs v (located fib))
 unfolding judgedAs numberOf
-answer-as fib (taken fs) e = done fs e refl (placed fib fs e .count)
+answer-as fib (taken fs) e = done fs e refl (spots-are fib fs e .count)
 answer-as fib (refused o) e = let f = refused-full fib o e in refusedBlock (f .0) (f .1) refl
 answer-as fib noBlock e = notABlock (λ l. subst (Refusal fib) e (full-refusal fib l)) refl refl
 

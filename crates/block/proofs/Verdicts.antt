@@ -7,15 +7,14 @@ use mathlib.Core.Bool.{Bool, true, false, cond, _||_}
 use mathlib.Core.List.{List, [], _∷_, _++_, map, append-assoc, append-nil}
 use lib.ListN.{length}
 use Rattle.rules.specs.declared.Outcome.the-variants.{WrongFig, WrongField, WrongValue, EmptyStart}
-use Rattle.rules.specs.Block.{Walk, whole, broken, after, walk, Fig, figAt, figs}
-use Rattle.rules.specs.Field.{Field as FieldOf, isLinking, fieldAt, fieldsOf, wrongValue, emptyStart}
+use Rattle.rules.specs.Block.{Placed, whatOf, Walk, whole, broken, after, Fig, figs}
+use Rattle.rules.specs.Field.{Field as FieldOf, isLinking, fieldsOf, wrongValue, emptyStart}
 use Rattle.rules.specs.Outcomes.{taken, refused, joined, allFields, some?, judgeFields, judgeFigs}
-use Rattle.rules.proofs.Basics.{cond-both, cond-ap, cases-bool}
-use Rattle.rules.proofs.Taken.{broken-whole}
+use Rattle.rules.proofs.Basics.{cond-both, cases-bool}
 use Rattle.block.specs.declared.Judged.{Judged}
-use Rattle.block.specs.Judged.{Located, fieldOf, itemsOf, joinedAll, standing, locatedAt, locatedOf, locatedFrom, located, judgedAs}
+use Rattle.block.specs.Judged.{Located, fieldOf, mapWalk, itemsOf, standing, locatedOf, allLocated, located, judgedAs}
 use Rattle.block.specs.Faults.{faultOf, faultsOf, answerOf, judgeFrom}
-use Rattle.block.proofs.Walks.{joined-none, mapWalk, map-same-walk, map-joined-all, items-map, walk-along}
+use Rattle.block.proofs.Walks.{map-joined, items-map, walk-back}
 
 -- ---- faults
 
@@ -28,7 +27,7 @@ faultOf-range f =
 faultsOf-range : (ls : List Located) → (4 ≤ faultsOf ls) × (faultsOf ls ≤ 7)
 unfolding faultsOf
 faultsOf-range [] = omega arith
-faultsOf-range (l ∷ ls) = omega (arith, faultOf-range (l .field), faultsOf-range ls)
+faultsOf-range (l ∷ ls) = omega (arith, faultOf-range (l .field .what), faultsOf-range ls)
 
 least-of : (a b c : ℕ) → min a (min b c) ≡ min (min a b) c
 least-of a b c = omega arith
@@ -36,10 +35,10 @@ least-of a b c = omega arith
 -- ---- a field more, found and no longer to come
 
 pub judge-after : (fault : ℕ) (ls : List Located) (l : Located) (w : Walk Located)
-    → judgeFrom fault ls (after l w) ≡ judgeFrom (min fault (faultOf (l .field))) (ls ++ l ∷ []) w
+    → judgeFrom fault ls (after l w) ≡ judgeFrom (min fault (faultOf (l .field .what))) (ls ++ l ∷ []) w
 unfolding judgeFrom after faultsOf
 judge-after fault ls l (whole more) =
-    ap₂ answerOf (least-of fault (faultOf (l .field)) (faultsOf more)) (sym (append-assoc ls (l ∷ []) more))
+    ap₂ answerOf (least-of fault (faultOf (l .field .what)) (faultsOf more)) (sym (append-assoc ls (l ∷ []) more))
 judge-after fault ls l (broken p) = refl
 
 -- ---- a field that does not fit: the answer, whatever comes
@@ -83,11 +82,11 @@ faults-tested : (ls : List Located)
 unfolding faultsOf faultOf some?
 faults-tested [] = refl
 faults-tested (l ∷ ls) =
-    ap (min (cond (wrongValue (l .field)) 5 (cond (emptyStart (l .field)) 6 7))) (faults-tested ls)
-    ∙ smaller (wrongValue (l .field)) (emptyStart (l .field)) (some? wrongValue (map fieldOf ls)) (some? emptyStart (map fieldOf ls))
+    ap (min (cond (wrongValue (l .field .what)) 5 (cond (emptyStart (l .field .what)) 6 7))) (faults-tested ls)
+    ∙ smaller (wrongValue (l .field .what)) (emptyStart (l .field .what)) (some? wrongValue (map fieldOf ls)) (some? emptyStart (map fieldOf ls))
 
 answer-tested : (b c : Bool) (ls : List Located)
-    → answerOf (min 7 (cond b 5 (cond c 6 7))) ls ≡ judgedAs (cond b (refused WrongValue) (cond c (refused EmptyStart) (taken (map fieldOf ls)))) ls
+    → answerOf (min 7 (cond b 5 (cond c 6 7))) ls ≡ judgedAs (cond b (refused WrongValue) (cond c (refused EmptyStart) (taken (map whatOf (map fieldOf ls))))) ls
 unfolding answerOf
 answer-tested true c ls = refl
 answer-tested false true ls = refl
@@ -102,85 +101,60 @@ judge-first (broken p) = refl
 
 -- ---- the fields with where they stand are those of the rules
 
--- the fields of a FIG, none where it carries no linking
-fieldsOr : Fig → Walk FieldOf
-fieldsOr fig = cond (isLinking fig) (fieldsOf fig) (whole [])
+fields-located : (fig : Placed Fig) → mapWalk fieldOf (locatedOf fig) ≡ fieldsOf fig
+unfolding locatedOf
+fields-located fig = walk-back (standing (fig .place + 1) (fig .place + 1 + length (fig .what .body))) fieldOf (λ f. refl) (fieldsOf fig)
 
-fields-located : (start stop : ℕ) (fig : Fig)
-    → mapWalk fieldOf (walk (locatedAt (fig .body) start stop) (length (fig .body)) 1) ≡ fieldsOf fig
-unfolding fieldsOf locatedAt
-fields-located start stop fig =
-    walk-along (fieldAt (fig .body)) (locatedAt (fig .body) start stop) (λ p f q. standing start stop p f) fieldOf (λ f. f)
-    (λ p. refl) (λ p f q. refl) (length (fig .body)) 1
-    ∙ map-same-walk (walk (fieldAt (fig .body)) (length (fig .body)) 1)
-
-fig-located : (start stop : ℕ) (fig : Fig) → mapWalk fieldOf (locatedOf start stop fig) ≡ fieldsOr fig
-unfolding locatedOf fieldsOr mapWalk
-fig-located start stop fig =
-    cond-ap (mapWalk fieldOf) (isLinking fig) _ _ ∙ ap (λ (w : Walk FieldOf). cond (isLinking fig) w (whole [])) (fields-located start stop fig)
-
--- those of all FIGs, joined
-all-joined : (gs : List Fig) → joinedAll (map fieldsOr gs) ≡ allFields gs
-unfolding joinedAll allFields fieldsOr
-all-joined [] = refl
-all-joined (fig ∷ gs) =
-    cases-bool (isLinking fig)
-    (λ e. rw e (ap (joined (fieldsOf fig)) (all-joined gs)))
-    (λ e. rw e (joined-none (joinedAll (map fieldsOr gs)) ∙ all-joined gs))
-
-fields-same : (v : Walk Fig) (w : Walk (Walk Located)) → mapWalk (mapWalk fieldOf) w ≡ mapWalk fieldsOr v
-    → mapWalk fieldOf (joinedAll (itemsOf w)) ≡ allFields (itemsOf v)
-fields-same v w e =
-    map-joined-all fieldOf (itemsOf w)
-    ∙ ap joinedAll (sym (items-map (mapWalk fieldOf) w) ∙ ap itemsOf e ∙ items-map fieldsOr v)
-    ∙ all-joined (itemsOf v)
-
-figs-located : (fib : List ℕ) (n p : ℕ) → mapWalk (mapWalk fieldOf) (walk (locatedFrom fib) n p) ≡ mapWalk fieldsOr (walk (figAt fib) n p)
-unfolding locatedFrom
-figs-located fib n p =
-    walk-along (figAt fib) (locatedFrom fib) (λ at fig next. locatedOf (at + 1) next fig) (mapWalk fieldOf) fieldsOr
-    (λ at. refl) (λ at fig next. fig-located (at + 1) next fig) n p
+all-located : (gs : List (Placed Fig)) → mapWalk fieldOf (allLocated gs) ≡ allFields gs
+unfolding allLocated allFields mapWalk
+all-located [] = refl
+all-located (fig ∷ gs) =
+    cases-bool (isLinking (fig .what))
+    (λ e. rw e (map-joined fieldOf (locatedOf fig) (allLocated gs) ∙ ap₂ joined (fields-located fig) (all-located gs)))
+    (λ e. rw e (all-located gs))
 
 -- of a block that is taken
-pub located-fields : (fib : List ℕ) (gs : List Fig) (fs : List FieldOf) → figs fib ≡ whole gs → allFields gs ≡ whole fs
+pub located-fields : (fib : List ℕ) (gs : List (Placed Fig)) (fs : List (Placed FieldOf)) → figs fib ≡ whole gs → allFields gs ≡ whole fs
     → map fieldOf (located fib) ≡ fs
-unfolding located figs itemsOf
+unfolding located itemsOf
 located-fields fib gs fs w f =
-    sym (items-map fieldOf (joinedAll (itemsOf (walk (locatedFrom fib) 31 0))))
-    ∙ ap itemsOf (fields-same (walk (figAt fib) 31 0) (walk (locatedFrom fib) 31 0) (figs-located fib 31 0)
-    ∙ ap (λ (v : Walk Fig). allFields (itemsOf v)) w ∙ f)
+    sym (items-map fieldOf (allLocated (itemsOf (figs fib))))
+    ∙ ap itemsOf (all-located (itemsOf (figs fib)) ∙ ap (λ (v : Walk (Placed Fig)). allFields (itemsOf v)) w ∙ f)
 
 -- ---- the FIGs of a block
 
 -- the answer to a fault and fields found so far, and the FIGs that come after them
-unfoldable pub judgeFigsFrom : ℕ → List Located → Walk (Walk Located) → Judged
-judgeFigsFrom fault ls (whole ws) = judgeFrom fault ls (joinedAll ws)
+unfoldable pub judgeFigsFrom : ℕ → List Located → Walk (Placed Fig) → Judged
+judgeFigsFrom fault ls (whole gs) = judgeFrom fault ls (allLocated gs)
 judgeFigsFrom fault ls (broken p) = judgedAs (refused WrongFig) []
 
-figs-judged : (v : Walk Fig) (w : Walk (Walk Located)) → mapWalk (mapWalk fieldOf) w ≡ mapWalk fieldsOr v
-    → judgedAs (judgeFigs v) (itemsOf (joinedAll (itemsOf w))) ≡ judgeFigsFrom 7 [] w
-unfolding judgeFigs judgeFigsFrom mapWalk itemsOf judgedAs
-figs-judged (whole gs) (whole ws) e =
-    ap (λ (x : Walk FieldOf). judgedAs (judgeFields x) (itemsOf (joinedAll ws))) (sym (fields-same (whole gs) (whole ws) e))
-    ∙ sym (judge-first (joinedAll ws))
-figs-judged (whole gs) (broken q) e = broken-whole q (map fieldsOr gs) e
-figs-judged (broken p) (whole ws) e = broken-whole p (map (mapWalk fieldOf) ws) (sym e)
-figs-judged (broken p) (broken q) e = refl
+figs-judged : (w : Walk (Placed Fig)) → judgedAs (judgeFigs w) (itemsOf (allLocated (itemsOf w))) ≡ judgeFigsFrom 7 [] w
+unfolding judgeFigs judgeFigsFrom itemsOf judgedAs
+figs-judged (whole gs) =
+    ap (λ (x : Walk (Placed FieldOf)). judgedAs (judgeFields x) (itemsOf (allLocated gs))) (sym (all-located gs)) ∙ sym (judge-first (allLocated gs))
+figs-judged (broken p) = refl
 
-pub figs-first : (fib : List ℕ) → judgedAs (judgeFigs (figs fib)) (located fib) ≡ judgeFigsFrom 7 [] (walk (locatedFrom fib) 31 0)
-unfolding figs located
-figs-first fib = figs-judged (walk (figAt fib) 31 0) (walk (locatedFrom fib) 31 0) (figs-located fib 31 0)
+pub figs-first : (fib : List ℕ) → judgedAs (judgeFigs (figs fib)) (located fib) ≡ judgeFigsFrom 7 [] (figs fib)
+unfolding located
+figs-first fib = figs-judged (figs fib)
 
 -- one FIG more: what its fields leave
-pub figs-after : (fault less : ℕ) (ls more : List Located) (w : Walk Located) (ws : Walk (Walk Located))
-    → ((rest : Walk Located) → judgeFrom fault ls (joined w rest) ≡ judgeFrom less more rest)
-    → judgeFigsFrom fault ls (after w ws) ≡ judgeFigsFrom less more ws
-unfolding judgeFigsFrom after joinedAll
-figs-after fault less ls more w (whole ws) h = h (joinedAll ws)
-figs-after fault less ls more w (broken p) h = refl
+pub figs-after : (fault less : ℕ) (ls more : List Located) (fig : Placed Fig) (w : Walk (Placed Fig)) → isLinking (fig .what) ≡ true
+    → ((rest : Walk Located) → judgeFrom fault ls (joined (locatedOf fig) rest) ≡ judgeFrom less more rest)
+    → judgeFigsFrom fault ls (after fig w) ≡ judgeFigsFrom less more w
+unfolding judgeFigsFrom after allLocated
+figs-after fault less ls more fig (whole gs) l h = rw l (h (allLocated gs))
+figs-after fault less ls more fig (broken p) l h = refl
+
+-- or nothing, where it carries no linking
+pub figs-over : (fault : ℕ) (ls : List Located) (fig : Placed Fig) (w : Walk (Placed Fig)) → isLinking (fig .what) ≡ false
+    → judgeFigsFrom fault ls (after fig w) ≡ judgeFigsFrom fault ls w
+unfolding judgeFigsFrom after allLocated
+figs-over fault ls fig (whole gs) l = rw l
+figs-over fault ls fig (broken p) l = refl
 
 pub figs-none : (fault : ℕ) (ls : List Located) → fault ≤ 7 → judgeFigsFrom fault ls (whole []) ≡ answerOf fault ls
-unfolding judgeFigsFrom joinedAll
+unfolding judgeFigsFrom allLocated
 figs-none fault ls h = judge-none fault ls h
 
 pub figs-wrong : (fault : ℕ) (ls : List Located) (p : ℕ) → judgeFigsFrom fault ls (broken p) ≡ judgedAs (refused WrongFig) []

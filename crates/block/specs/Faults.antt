@@ -7,14 +7,14 @@ use mathlib.Core.List.{List, [], _∷_, _++_, map}
 use lib.ListN.{length, take, drop}
 use lib.Dec.{eqb}
 use Rattle.rules.specs.declared.Outcome.the-variants.{WrongField, WrongValue, EmptyStart}
-use Rattle.rules.specs.Block.{Walk, whole, broken, walk, figs}
-use Rattle.rules.specs.Field.{Field as FieldOf, wrongValue, emptyStart}
+use Rattle.rules.specs.Block.{whatOf, Walk, whole, broken, walk, figs}
+use Rattle.rules.specs.Field.{Field as FieldOf, fieldAt, wrongValue, emptyStart}
 use Rattle.rules.specs.Outcomes.{taken, refused, joined, judgeFigs}
 use Rattle.field.specs.declared.Field.{Field}
 use Rattle.field.specs.FieldStep.{wrongIn, emptyIn}
 use Rattle.block.specs.declared.Pushed.{Pushed}
 use Rattle.block.specs.declared.Judged.{Judged}
-use Rattle.block.specs.Judged.{Located, spotOf, fieldOf, locatedAt, located, storeSpots, judgedAs}
+use Rattle.block.specs.Judged.{Located, spotOf, fieldOf, mapWalk, standing, located, storeSpots, judgedAs}
 
 -- the fault of a field of the code: 5 a wrong value, 6 an empty start, 7 none
 unfoldable pub faultIn : Field → ℕ
@@ -27,7 +27,7 @@ faultOf f = cond (wrongValue f) 5 (cond (emptyStart f) 6 7)
 -- the smallest fault of these fields
 unfoldable pub faultsOf : List Located → ℕ
 faultsOf [] = 7
-faultsOf (l ∷ ls) = min (faultOf (l .field)) (faultsOf ls)
+faultsOf (l ∷ ls) = min (faultOf (l .field .what)) (faultsOf ls)
 
 -- the answer by the smallest fault: 4 a field that does not fit, 5, 6, or where the fields stand
 unfoldable pub answerOf : ℕ → List Located → Judged
@@ -36,7 +36,7 @@ answerOf fault ls =
     (cond (eqb fault 4) (refused WrongField)
     (cond (eqb fault 5) (refused WrongValue)
     (cond (eqb fault 6) (refused EmptyStart)
-    (taken (map fieldOf ls)))))
+    (taken (map whatOf (map fieldOf ls))))))
     ls
 
 -- the answer to a fault and fields found so far, and the fields that come after them
@@ -44,9 +44,13 @@ unfoldable pub judgeFrom : ℕ → List Located → Walk Located → Judged
 judgeFrom fault ls (whole more) = answerOf (min fault (faultsOf more)) (ls ++ more)
 judgeFrom fault ls (broken p) = judgedAs (refused WrongField) []
 
--- the fields of a body fib[start..stop]
+-- the fields of a body fib[start..stop] from a place of it on, in at most n steps
+unfoldable pub locatedFrom : List ℕ → ℕ → ℕ → ℕ → ℕ → Walk Located
+locatedFrom fib start stop n place = mapWalk (standing start stop) (walk start (fieldAt (take (stop - start) (drop start fib))) n place)
+
+-- all of them
 unfoldable pub locatedIn : List ℕ → ℕ → ℕ → Walk Located
-locatedIn fib start stop = walk (locatedAt (take (stop - start) (drop start fib)) start stop) (stop - start) 1
+locatedIn fib start stop = locatedFrom fib start stop (stop - start) 1
 
 -- a body that fields can still be pushed from: it lies in a block's data, and each field found so far has taken two bytes
 -- before it, after the first two

@@ -1,13 +1,13 @@
 -- What judging a block answers: where the fields of a taken block stand in it, in order, or the outcome that refuses it; and
 -- what is read again at a spot.
-use Prim.Native.Nat.{ℕ, _+_}
+use Prim.Native.Nat.{ℕ, _+_, _-_}
 use mathlib.Core.Bool.{cond}
 use mathlib.Core.List.{List, [], _∷_, map}
 use lib.ListN.{length, replicate}
 use Rattle.rules.specs.declared.Outcome.the-variants.{Done, NotABlock}
 use Rattle.rules.specs.Arrays.{padded}
-use Rattle.rules.specs.Block.{Step, item, end, wrong, Walk, whole, broken, walk, Fig, figAt}
-use Rattle.rules.specs.Field.{Field as FieldOf, isLinking, fieldAt}
+use Rattle.rules.specs.Block.{Placed, Walk, whole, broken, Fig, figs}
+use Rattle.rules.specs.Field.{Field as FieldOf, isLinking, fieldsOf}
 use Rattle.rules.specs.Outcomes.{Verdict, taken, refused, noBlock, joined, verdict}
 use Rattle.field.specs.declared.Field.{Field}
 use Rattle.field.specs.declared.FieldStep.{FieldStep}
@@ -48,53 +48,44 @@ fieldIn body place = fieldOr (fieldStepAt body place)
 
 -- ---- the fields of a block, with where they stand
 
--- a field of the rules, and where it stands
+-- a field of the rules at its place in the block, and the spot that says it
 pub record Located : Type 0 where
   pub spot : Spot
-  pub field : FieldOf
+  pub field : Placed FieldOf
 
 -- the one and the other
 abbrev pub spotOf : Located → Spot
 spotOf l = l .spot
 
-abbrev pub fieldOf : Located → FieldOf
+abbrev pub fieldOf : Located → Placed FieldOf
 fieldOf l = l .field
 
--- a step with another item in place of its own, made of that and of the place after it
-unfoldable pub onItem : {A B : Type 0} → (A → ℕ → B) → Step A → Step B
-onItem g (item a next) = item (g a next) next
-onItem g end = end
-onItem g wrong = wrong
+-- a walk with every item made into another
+unfoldable pub mapWalk : {A B : Type 0} → (A → B) → Walk A → Walk B
+mapWalk h (whole xs) = whole (map h xs)
+mapWalk h (broken p) = broken p
 
 -- the items of a walk that reaches the end
 unfoldable pub itemsOf : {A : Type 0} → Walk A → List A
 itemsOf (whole xs) = xs
 itemsOf (broken p) = []
 
--- walks, one after the other
-unfoldable pub joinedAll : {A : Type 0} → List (Walk A) → Walk A
-joinedAll [] = whole []
-joinedAll (w ∷ ws) = joined w (joinedAll ws)
+-- a field of a FIG with the body fib[start..stop]: its place in that body is counted from start
+abbrev pub standing : ℕ → ℕ → Placed FieldOf → Located
+standing start stop f = record { spot = record { start = start; end = stop; place = f .place - start }; field = f }
 
--- a field at a place of a FIG's body, which is fib[start..stop]
-abbrev pub standing : ℕ → ℕ → ℕ → FieldOf → Located
-standing start stop place f = record { spot = record { start = start; end = stop; place = place }; field = f }
+-- the fields of a linking FIG
+unfoldable pub locatedOf : Placed Fig → Walk Located
+locatedOf fig = mapWalk (standing (fig .place + 1) (fig .place + 1 + length (fig .what .body))) (fieldsOf fig)
 
--- the field that begins at a place of that body
-unfoldable pub locatedAt : List ℕ → ℕ → ℕ → ℕ → Step Located
-locatedAt body start stop place = onItem (λ f next. standing start stop place f) (fieldAt body place)
-
--- the fields of a FIG with that body, none where it carries no linking
-unfoldable pub locatedOf : ℕ → ℕ → Fig → Walk Located
-locatedOf start stop fig = cond (isLinking fig) (walk (locatedAt (fig .body) start stop) (length (fig .body)) 1) (whole [])
-
--- the fields of the FIG that begins at a place of a block
-unfoldable pub locatedFrom : List ℕ → ℕ → Step (Walk Located)
-locatedFrom fib place = onItem (λ fig next. locatedOf (place + 1) next fig) (figAt fib place)
+-- the fields of all linking FIGs, in order
+unfoldable pub allLocated : List (Placed Fig) → Walk Located
+allLocated [] = whole []
+allLocated (fig ∷ rest) = cond (isLinking (fig .what)) (joined (locatedOf fig) (allLocated rest)) (allLocated rest)
 
 -- the fields of a block, in order
 unfoldable pub located : List ℕ → List Located
-located fib = itemsOf (joinedAll (itemsOf (walk (locatedFrom fib) 31 0)))
+located fib = itemsOf (allLocated (itemsOf (figs fib)))
 
 -- ---- the answer
 

@@ -9,7 +9,7 @@ use mathlib.Core.Option.{Option, none, some}
 use lib.ListN.{length, length-append}
 use lib.Dec.{eqb}
 use Rattle.rules.specs.Field.{rds, drm}
-use Rattle.rules.specs.Collecting.{IdSet, Held, Entries, Content, Shown, showing, shownSets, keyWidth, ifThere, entryMeets, entriesMeet, meets}
+use Rattle.rules.specs.Collecting.{IdSet, Held, Entries, Content, Shown, showing, shownSets, keyWidth, ifThere, entryMeets, entriesMeet, meets, mostIds}
 use Rattle.lists.specs.Kinds.{hasKind}
 use Rattle.text.specs.Listing.{stateText}
 use Rattle.rules.proofs.Basics.{and-left, and-right}
@@ -23,11 +23,11 @@ if-most : (b : Bool) (x n : ℕ) → x ≤ n → cond b x 0 ≤ n
 if-most true x n h = h
 if-most false x n h = omega arith
 
-set-most : (csv : Bool) (s : Shown) → length (s .set .items) ≤ 128 → length (rowsText csv (rowsOf s) ++ ruleText csv) ≤ cond csv 3120 6419
+set-most : (csv : Bool) (s : Shown) → length (s .set .items) ≤ mostIds → length (rowsText csv (rowsOf s) ++ ruleText csv) ≤ cond csv 3120 6419
 unfolding ruleText
 set-most true s h =
     let st : ℕ = length (stateText (s .on)) in
-    let few : length (s .set .items) * (13 + st + 2 * keyWidth (s .key)) ≤ 128 * 24 = mul-le-mul {n₂ = 128} {m₂ = 24} h (omega (arith, narrow-state (s .on), width-most (s .key))) in
+    let few : length (s .set .items) * (13 + st + 2 * keyWidth (s .key)) ≤ mostIds * 24 = mul-le-mul {n₂ = mostIds} {m₂ = 24} h (omega (arith, narrow-state (s .on), width-most (s .key))) in
     omega (
       arith,
       length-set true s refl refl refl refl,

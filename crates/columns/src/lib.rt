@@ -6,7 +6,6 @@ use lists::is_dead;
 use lists::least;
 use lists::width_of;
 use out::Written;
-use out::cut_to;
 use out::put;
 use out::put_bytes;
 use out::put_hex;
@@ -18,7 +17,7 @@ ghost use mathlib.Core.Bool.{cond};
 ghost use mathlib.Core.List.{[], _++_};
 ghost use Prim.Native.Nat.{_+_, _*_, _≤_};
 ghost use lib.ListN.{length, replicate};
-ghost use Rattle.rules.specs.Collecting.{keyWidth};
+ghost use Rattle.rules.specs.Collecting.{keyWidth, mostKeys, mostIds};
 ghost use Rattle.lists.specs.Kinds.{isDead};
 ghost use Rattle.text.specs.Listing.{stateText};
 ghost use Rattle.lists.specs.Stored.{pairsIn};
@@ -34,7 +33,7 @@ ghost use Rattle.columns.specs.Cells.{cellOf};
 fn put_same(out: &mut [u8], at: usize, n: usize, b: u8) -> usize
     ensures { λ r. ⌜ Puts (now (out .entry)) at (replicate n b) (now (out .exit)) r ⌝ }
 {
-    let mut p = cut_to(at, out.len());
+    let mut p = least(at, out.len());
     let mut left = n;
     while 0 < left {
         left -= 1;
@@ -48,7 +47,7 @@ fn put_fill(out: &mut [u8], at: usize, csv: bool, n: usize) -> usize
     ensures { λ r. ⌜ Puts (now (out .entry)) at (cond csv [] (replicate n 32)) (now (out .exit)) r ⌝ }
 {
     if csv {
-        cut_to(at, out.len())
+        least(at, out.len())
     } else {
         put_same(out, at, n, 32)
     }
@@ -140,9 +139,9 @@ fn put_row(
 {
     let digits = 2 * width_of(key);
     let p = put_head(out, at, csv, key, on);
-    let q = put_cell(out, p, csv, kind == 0, gone, digits, n);
+    let q = put_cell(out, p, csv, kind == rules::DAB, gone, digits, n);
     let r = put_gap(out, q, csv);
-    let s = put_cell(out, r, csv, kind == 1, gone, digits, n);
+    let s = put_cell(out, r, csv, kind == rules::RDS, gone, digits, n);
     let t = put_gap(out, s, csv);
     let u = put_cell(out, t, csv, kind > 1, gone, digits, n);
     put(out, u, 10)
@@ -168,8 +167,8 @@ fn row_size(csv: bool, on: bool, cell: usize) -> usize
 fn put_codes(out: &mut [u8], at: usize, csv: bool, key: u32, on: bool, list: IdList) -> usize
     ensures { λ r. ⌜ Puts (now (out .entry)) at (rowsText csv (codeRows (shownAs key on list) (pairsIn (list .kinds) (list .numbers) (list .len)))) (now (out .exit)) r ⌝ }
 {
-    let end = least(list.len, 128);
-    let mut p = cut_to(at, out.len());
+    let end = least(list.len, IdList::MOST);
+    let mut p = least(at, out.len());
     let mut j = 0;
     while j < end {
         p = put_row(out, p, csv, key, on, list.kinds[j], false, list.numbers[j]);
@@ -180,7 +179,7 @@ fn put_codes(out: &mut [u8], at: usize, csv: bool, key: u32, on: bool, list: IdL
 
 // The size of the rows of this many identifiers of a key.
 fn codes_size(csv: bool, key: u32, on: bool, n: usize) -> usize
-    requires { ⌜ n ≤ 128 ⌝ }
+    requires { ⌜ n ≤ mostIds ⌝ }
     ensures { λ r. ⌜ (r ≡ n * cond csv (13 + length (stateText on) + 2 * keyWidth key) 49) × (r ≤ 6272) ⌝ }
 {
     n * row_size(csv, on, 2 + 2 * width_of(key))
@@ -204,7 +203,7 @@ fn put_dead(
     if is_dead(kind, named, &list.numbers, &list.kinds, len) {
         put_row(out, at, csv, key, on, kind, true, 0)
     } else {
-        cut_to(at, out.len())
+        least(at, out.len())
     }
 }
 
@@ -227,7 +226,7 @@ fn put_rule(out: &mut [u8], at: usize, csv: bool) -> usize
     ensures { λ r. ⌜ Puts (now (out .entry)) at (ruleText csv) (now (out .exit)) r ⌝ }
 {
     if csv {
-        cut_to(at, out.len())
+        least(at, out.len())
     } else {
         let p = put_same(out, at, 48, 45);
         put(out, p, 10)
@@ -248,8 +247,8 @@ fn put_set(out: &mut [u8], at: usize, csv: bool, key: u32, on: bool, list: IdLis
     let rds = list.named % 2 == 1;
     let drm = list.named / 2 == 1;
     let p = put_codes(out, at, csv, key, on, list);
-    let q = put_dead(out, p, csv, key, on, 1, rds, list);
-    let r = put_dead(out, q, csv, key, on, 3, drm, list);
+    let q = put_dead(out, p, csv, key, on, rules::RDS, rds, list);
+    let r = put_dead(out, q, csv, key, on, rules::DRM, drm, list);
     put_rule(out, r, csv)
 }
 
@@ -259,9 +258,9 @@ fn set_size(csv: bool, key: u32, on: bool, list: IdList) -> usize
 {
     let rds = list.named % 2 == 1;
     let drm = list.named / 2 == 1;
-    let codes = codes_size(csv, key, on, least(list.len, 128));
-    let r = dead_size(csv, on, 1, rds, list);
-    let m = dead_size(csv, on, 3, drm, list);
+    let codes = codes_size(csv, key, on, least(list.len, IdList::MOST));
+    let r = dead_size(csv, on, rules::RDS, rds, list);
+    let m = dead_size(csv, on, rules::DRM, drm, list);
     codes + r + m + rule_size(csv)
 }
 
@@ -292,10 +291,10 @@ fn heading_size(csv: bool) -> usize
 
 // The sets at a place.
 fn put_sets(out: &mut [u8], at: usize, csv: bool, sets: Sets) -> usize
-    requires { ⌜ sets .count ≤ 32 ⌝ }
+    requires { ⌜ sets .count ≤ mostKeys ⌝ }
     ensures { λ r. ⌜ Puts (now (out .entry)) at (setsText csv (setsIn sets)) (now (out .exit)) r ⌝ }
 {
-    let mut p = cut_to(at, out.len());
+    let mut p = least(at, out.len());
     let mut k = 0;
     while k < sets.count {
         let set = sets.shown[k];
@@ -309,7 +308,7 @@ fn put_sets(out: &mut [u8], at: usize, csv: bool, sets: Sets) -> usize
 
 // Their size.
 fn sets_size(csv: bool, sets: Sets) -> usize
-    requires { ⌜ sets .count ≤ 32 ⌝ }
+    requires { ⌜ sets .count ≤ mostKeys ⌝ }
     ensures { λ r. ⌜ (r ≡ length (setsText csv (setsIn sets))) × (r ≤ 205408) ⌝ }
 {
     let mut size = 0;

@@ -96,6 +96,7 @@ module _ (body : List ℕ) (at : ℕ) (f : Field) (next : ℕ) where
 -- ---- what a field says
 
 module _ (body : List ℕ) (f : Field) where
+  -- nothing above cites it, since both compute to the same: it stops who changes a key's bits in code and definition alike
   pub key-means : keyIn f ≡ keyOf (meaning body f)
   unfolding keyOf meaning
   key-means = refl

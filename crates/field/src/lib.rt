@@ -240,7 +240,7 @@ impl Field {
 fn first_kind(oe: u8, qualifier: u8) -> u8
     ensures { λ r. ⌜ r ≡ firstKind oe qualifier ⌝ }
 {
-    0
+    rules::DAB
 }
 
 // The number that w bytes write from a place on, the highest byte first.
@@ -263,24 +263,24 @@ fn number_at(body: &[u8], place: usize, w: usize) -> u32
 fn of_kind(kind: u8, number: u32) -> Identifier
     ensures { λ r. ⌜ r ≡ ofKind kind number ⌝ }
 {
-    if kind == 1 {
+    if kind == rules::RDS {
         return Identifier::Rds(Pi(number));
     }
-    if kind == 3 {
+    if kind == rules::DRM {
         return Identifier::Drm(Amss(number));
     }
     Identifier::Dab(Service(number))
 }
 
 impl Identifier {
-    // 0 for a DAB service, 1 for an RDS code, 3 for DRM or AMSS.
+    // Its kind.
     pub fn kind(self) -> u8
         ensures { λ r. ⌜ r ≡ pairOf self .kind ⌝ }
     {
         match self {
-            Identifier::Dab(_) => 0,
-            Identifier::Rds(_) => 1,
-            Identifier::Drm(_) => 3,
+            Identifier::Dab(_) => rules::DAB,
+            Identifier::Rds(_) => rules::RDS,
+            Identifier::Drm(_) => rules::DRM,
         }
     }
 

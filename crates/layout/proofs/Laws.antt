@@ -4,24 +4,24 @@
 -- sheet-most, load-single, load-meets, load-written, load-again.
 use Prim.Native.Nat.{ℕ, zero, suc, _+_, _*_, _/_, _%_, _^_, _≤_, _<_}
 use mathlib.Core.Path.{_≡_, refl, sym, _∙_, ap, ap₂}
-use mathlib.Core.Bool.{Bool, true, false, not, _&&_}
+use mathlib.Core.Bool.{Bool, true, false, _&&_}
 use mathlib.Core.List.{List, [], _∷_, _++_, map, append-assoc}
 use mathlib.Core.Logic.{_↔_}
 use mathlib.Core.Option.{Option, none, some}
 use native.Mathlib.Nat.{pow-suc, div-lt-iff-lt-mul}
 use native.Mathlib.Omega.{arith}
 use lib.ListN.{length, length-append, length-map}
-use lib.Dec.{ltb, eqb}
+use lib.Dec.{ltb}
 use borrow.Author.Tests.{ltb-true, lt-ltb, le-ltb}
 use Rattle.rules.specs.declared.Outcome.{Outcome}
 use Rattle.rules.specs.declared.Outcome.the-variants.{Done}
 use Rattle.rules.specs.Block.{bit}
 use Rattle.rules.specs.Field.{Pair}
 use Rattle.rules.specs.Family.{heldMeets}
-use Rattle.rules.specs.Collecting.{IdSet, Entries, Content, justSets, Shown, keyWidth, pairsMeet, ifThere, entryMeets, ascends, entriesMeet, setsMeet, meets, showing, shownSets}
+use Rattle.rules.specs.Collecting.{IdSet, Entries, Content, justSets, Shown, isKey, keyWidth, pairsMeet, ifThere, entryMeets, ascends, entriesMeet, setsMeet, meets, showing, shownSets}
 use Rattle.layout.specs.Sheet.{groups, sheetNumber, sheetPairs, sheetSet, sheetSets, sheet, alone, justShown, Load, accepted, notASheet}
 use Rattle.rules.proofs.Basics.{same-head, same-tail, cases-bool, and-left, and-right, and-both, bit-small}
-use Rattle.rules.proofs.TableRules.{kind-small, names-small, width-most, within-width, pair-rules, SetRules, set-rules, entry-rules, table-rules, shown-few}
+use Rattle.rules.proofs.TableRules.{kind-small, names-small, width-most, within-width, pair-rules, SetRules, set-rules, entry-rules, KeyMeets, key-meets, table-rules, shown-few}
 
 -- ---- numbers
 
@@ -79,15 +79,14 @@ number-most k n h = groups-most 5 k n h
 
 -- the rules of an entry, its open list aside
 pub record ShownRules (s : Shown) : Type 0 where
-  pub below : s .key < 65536
-  pub lsn : eqb (s .key % 4096) 0 ≡ false
+  pub key : KeyMeets (s .key)
   pub set : SetRules (s .key) (s .set)
 
 pub shown-rules : (s : Shown) → (entryMeets (alone s) ≡ true) ↔ ShownRules s
 unfolding ifThere alone
 shown-rules s = (
-  λ h. let r = entry-rules (alone s) .0 h in record { below = r .below; lsn = r .numbered; set = set-rules (s .key) (s .set) .0 (r .shown) },
-  λ r. entry-rules (alone s) .1 (record { below = r .below; numbered = r .lsn; shown = set-rules (s .key) (s .set) .1 (r .set); draft = refl }),
+  λ h. let r = entry-rules (alone s) .0 h in record { key = key-meets (s .key) .0 (r .key); set = set-rules (s .key) (s .set) .0 (r .shown) },
+  λ r. entry-rules (alone s) .1 (record { key = key-meets (s .key) .1 (r .key); shown = set-rules (s .key) (s .set) .1 (r .set); draft = refl }),
 )
 
 -- ---- pairs
@@ -205,14 +204,14 @@ pub shown-entries : (t : Entries) → entriesMeet t ≡ true → entriesMeet (ma
 unfolding shownSets showing alone entriesMeet heldMeets ifThere
 shown-entries [] h = refl
 shown-entries (e ∷ es) h =
-    let a = ltb (e .key) 65536 && not (eqb (e .key % 4096) 0) in
+    let a = isKey (e .key) in
     let b = ifThere (e .key) (e .shown) in
     let d = ifThere (e .key) (e .draft) in
     let abd = and-left (a && b && d) (entriesMeet es) h in
     let ab = and-left (a && b) d abd in
     go (e .shown) (and-left a b ab) (and-right a b ab) (shown-entries es (and-right (a && b && d) (entriesMeet es) h))
   where
-    go : (o : Option IdSet) → ltb (e .key) 65536 && not (eqb (e .key % 4096) 0) ≡ true → ifThere (e .key) o ≡ true
+    go : (o : Option IdSet) → isKey (e .key) ≡ true → ifThere (e .key) o ≡ true
         → entriesMeet (map alone (shownSets es)) ≡ true → entriesMeet (map alone (showing e o (shownSets es))) ≡ true
     go none k s r = r
     go (some l) k s r = and-both _ _ (and-both _ _ (and-both _ _ k s) refl) r

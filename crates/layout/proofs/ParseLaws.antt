@@ -11,7 +11,7 @@ use mathlib.Core.Option.{Option, none, some, Option·some-injective, Option·non
 use native.Mathlib.Nat.{pow-suc, pow-le-pow-right, one-le-pow, mul-le-mul-right, add-mul, mul-assoc, mul-comm, mul-left-comm}
 use native.Mathlib.Numerals.{add-one}
 use native.Mathlib.Omega.{arith}
-use lib.ListN.{length, getD, drop, length-append, length-map}
+use lib.ListN.{length, getD, drop, length-map}
 use lib.Seq.{append-snoc, drop-length}
 use lib.Dec.{leb, ltb, eqb, eqb·suc-zero}
 use borrow.Author.Tests.{ltb-true, ltb-false, leb-true, leb-false, eqb-true, eqb-false, not-true, lt-ltb, le-ltb, le-leb, lt-leb, eq-eqb, ne-eqb}
@@ -20,11 +20,11 @@ use Rattle.rules.specs.declared.Outcome.the-variants.{Done, NotASheet}
 use Rattle.rules.specs.Block.{bit}
 use Rattle.rules.specs.Field.{Pair, pair}
 use Rattle.rules.specs.Family.{member}
-use Rattle.rules.specs.Collecting.{linkage, Entries, Content, nothing, justSets, Shown, keyWidth, allDiffer, mayBegin, beginsRight, kindNamed, pairsMeet, namesMeet, entryMeets, ascends, entriesMeet, meets, shownSets}
+use Rattle.rules.specs.Collecting.{linkage, Entries, Content, nothing, justSets, Shown, isKey, keyWidth, allDiffer, mayBegin, beginsRight, kindNamed, pairsMeet, namesMeet, entryMeets, ascends, entriesMeet, meets, shownSets, mostKeys, mostIds}
 use Rattle.layout.specs.Sheet.{groups, sheetNumber, sheetPairs, sheetSet, sheetSets, sheet, alone, justShown, Load, accepted, notASheet}
 use Rattle.rules.proofs.Basics.{cases-bool, cases-option, true-false, and-left, and-right, and-both, bit-small}
 use Rattle.rules.proofs.FamilyLaws.{different-snoc}
-use Rattle.rules.proofs.TableRules.{lawful, kind-small, names-small, width-most, within-width, all-differ, differ-before, pair-rules, some-there, not-empty, table-rules, shown-few}
+use Rattle.rules.proofs.TableRules.{lawful, kind-small, names-small, width-most, within-width, all-differ, differ-before, pair-rules, some-there, not-empty, key-meets, table-rules, shown-few}
 use Rattle.layout.proofs.Standing.{Bytes, Stands, byte-ahead, stands-byte, stands-none, stands-append, stands-first, stands-second, stands-to, stands-by}
 use Rattle.layout.proofs.Laws.{groups-small, groups-large, ShownRules, shown-rules, shown-ascends, shown-entries, shown-alone}
 use Rattle.layout.specs.Parse.{Read, andThen, readGroups, readNumber, readIf, kindFits, numberFits, readPair, readPairs, keyFits, countFits, Head, readHead, setOf, readSet, readSets, parseSheet}
@@ -433,26 +433,21 @@ bit-test true = refl
 bit-test false = refl
 
 -- a key that fits, rule by rule
-pub key-rules : (last k : ℕ) → keyFits last k ≡ true → (last < k) × (k < 65536) × (eqb (k % 4096) 0 ≡ false)
+pub key-rules : (last k : ℕ) → keyFits last k ≡ true → (last < k) × (isKey k ≡ true)
 unfolding keyFits
-key-rules last k h =
-    let a = ltb last k in
-    let b = ltb k 65536 in
-    let c = not (eqb (k % 4096) 0) in
-    let ab = and-left (a && b) c h in
-    (ltb-true last k (and-left a b ab), ltb-true k 65536 (and-right a b ab), not-true (eqb (k % 4096) 0) (and-right (a && b) c h))
+key-rules last k h = (ltb-true last k (and-left (ltb last k) (isKey k) h), and-right (ltb last k) (isKey k) h)
 
-pub key-fits : (last k : ℕ) → last < k → k < 65536 → eqb (k % 4096) 0 ≡ false → keyFits last k ≡ true
+pub key-fits : (last k : ℕ) → last < k → isKey k ≡ true → keyFits last k ≡ true
 unfolding keyFits
-key-fits last k a b c = and-both _ _ (and-both _ _ (lt-ltb last k a) (lt-ltb k 65536 b)) (ap not c)
+key-fits last k a b = and-both _ _ (lt-ltb last k a) b
 
-pub count-rules : (n : ℕ) → countFits n ≡ true → (1 ≤ n) × (n ≤ 128)
+pub count-rules : (n : ℕ) → countFits n ≡ true → (1 ≤ n) × (n ≤ mostIds)
 unfolding countFits
-count-rules n h = (leb-true 1 n (and-left (leb 1 n) (leb n 128) h), leb-true n 128 (and-right (leb 1 n) (leb n 128) h))
+count-rules n h = (leb-true 1 n (and-left (leb 1 n) (leb n mostIds) h), leb-true n mostIds (and-right (leb 1 n) (leb n mostIds) h))
 
-pub count-fits : (n : ℕ) → 1 ≤ n → n ≤ 128 → countFits n ≡ true
+pub count-fits : (n : ℕ) → 1 ≤ n → n ≤ mostIds → countFits n ≡ true
 unfolding countFits
-count-fits n a b = and-both _ _ (le-leb 1 n a) (le-leb n 128 b)
+count-fits n a b = and-both _ _ (le-leb 1 n a) (le-leb n mostIds b)
 
 pub head-readable : (last : ℕ) (h : Head) (bytes : List ℕ) (at next : ℕ) → HeadRules last h → Stands (headBytes h) bytes at next
     → readHead last bytes at ≡ some (record { value = h; next = next })
@@ -462,7 +457,7 @@ head-readable last h bytes at next r s =
     let o = sheetNumber (bit (h .on)) in
     let n = sheetNumber (h .named) in
     let c = sheetNumber (h .count) in
-    let kr = key-rules last (h .key) (r .key) in
+    let kr = key-meets (h .key) .0 (key-rules last (h .key) (r .key) .1) .0 in
     let cr = count-rules (h .count) (r .count) in
     let small = bit-small (h .on) in
     let names = names-small (h .key) (h .named) (r .named) in
@@ -499,8 +494,7 @@ set-made last h items bytes at place next r s q l t =
     record {
       after = k .0;
       rules = record {
-        below = k .1;
-        lsn = k .2;
+        key = key-meets (h .key) .0 (k .1);
         set = record { short = omega arith; some = not-empty items (omega arith); first = l .first; differ = l .differ; pairs = l .pairs; names = r .named };
       };
       stands = stands-by (set-parts h items q) (stands-append s t);
@@ -528,7 +522,7 @@ set-readable last s bytes at next after r t =
     let u = stands-by (sym (set-parts h items refl)) t in
     let place = at + length (headBytes h) in
     let some-first = some-there items (r .set .some) in
-    let hr : HeadRules last h = record { key = key-fits last (s .key) after (r .below) (r .lsn); named = r .set .names; count = count-fits (length items) some-first (r .set .short) } in
+    let hr : HeadRules last h = record { key = key-fits last (s .key) after (key-meets (s .key) .1 (r .key)); named = r .set .names; count = count-fits (length items) some-first (r .set .short) } in
     let lr : ListRules (s .key) (s .set .named) items = record { pairs = r .set .pairs; differ = r .set .differ; first = r .set .first } in
     then-go _ (record { value = h; next = place }) (head-readable last h bytes at place hr (stands-first (headBytes h) (sheetPairs items) u))
     ∙ then-go _ (record { value = items; next = next }) (pairs-readable (s .key) (s .set .named) [] items bytes place next lr (stands-second (headBytes h) (sheetPairs items) u))
@@ -603,7 +597,7 @@ pub record Parsed (bytes : List ℕ) (u : Content) : Type 0 where
   pub alone : justShown u ≡ u
 
 -- a count and its sets make a sheet
-sheet-made : (ss : List Shown) (bytes : List ℕ) (place next : ℕ) → length ss ≤ 32 → Stands (sheetNumber (length ss)) bytes 0 place
+sheet-made : (ss : List Shown) (bytes : List ℕ) (place next : ℕ) → length ss ≤ mostKeys → Stands (sheetNumber (length ss)) bytes 0 place
     → ascends 0 (map alone ss) ≡ true → entriesMeet (map alone ss) ≡ true → Stands (sheetSets ss) bytes place next → next ≡ length bytes
     → Parsed bytes (justSets (map alone ss))
 unfolding sheet justShown
@@ -623,12 +617,12 @@ sheet-made ss bytes place next few n o r s q =
 pub sheet-read : (bytes : List ℕ) (u : Content) → Bytes bytes → parseSheet bytes ≡ some u → Parsed bytes u
 unfolding parseSheet
 sheet-read bytes u byte e =
-    then-some (readIf (λ n. leb n 32) bytes 0) _ e (λ a ae f.
+    then-some (readIf (λ n. leb n mostKeys) bytes 0) _ e (λ a ae f.
     then-some (readSets (a .value) 0 [] bytes (a .next)) _ f (λ b be g.
-    let ar = if-read (λ n. leb n 32) bytes 0 a byte ae in
+    let ar = if-read (λ n. leb n mostKeys) bytes 0 a byte ae in
     let br = sets-read (a .value) 0 [] bytes (a .next) b byte be in
     let c = cond-some (eqb (b .next) (length bytes)) (some (justSets (b .value))) g in
-    let few = leb-true (a .value) 32 (ar .0) in
+    let few = leb-true (a .value) mostKeys (ar .0) in
     let n = stands-by (ap sheetNumber (sym (br .many))) (ar .1 .stands) in
     let q = ap justSets (sym (br .longer)) ∙ Option·some-injective _ _ (c .1) in
     subst (λ (x : Content). Parsed bytes x) q
@@ -647,7 +641,7 @@ sheet-readable t h =
     let place = 0 + length n in
     let whole : Stands bytes bytes 0 (length bytes) =
     record { ahead = sym (ap (λ (x : List ℕ). bytes ++ x) (drop-length bytes) ∙ append-nil bytes); step = omega arith } in
-    then-go _ (record { value = length ss; next = place }) (if-readable (λ k. leb k 32) (le-leb (length ss) 32 (omega (arith, r .short))) (record { below = omega (arith, r .short); stands = stands-first n (sheetSets ss) whole }))
+    then-go _ (record { value = length ss; next = place }) (if-readable (λ k. leb k mostKeys) (le-leb (length ss) mostKeys (omega (arith, r .short))) (record { below = omega (arith, r .short); stands = stands-first n (sheetSets ss) whole }))
     ∙ then-go _ (record { value = map alone ss; next = length bytes }) (sets-readable 0 [] ss bytes place (length bytes) (shown-ascends 0 (t .sets) (r .ascend)) (shown-entries (t .sets) (r .entries)) (stands-second n (sheetSets ss) whole))
     ∙ rw (eq-eqb (length bytes) (length bytes) refl)
 

@@ -8,7 +8,7 @@ use lib.ListN.{length, getD}
 use lib.Dec.{leb, ltb, eqb}
 use Rattle.rules.specs.Field.{Pair, pair}
 use Rattle.rules.specs.Family.{member}
-use Rattle.rules.specs.Collecting.{linkage, Entries, Content, justSets, Shown, keyWidth, mayBegin, kindNamed, namesMeet}
+use Rattle.rules.specs.Collecting.{linkage, Entries, Content, justSets, Shown, isKey, keyWidth, mayBegin, kindNamed, namesMeet, mostKeys, mostIds}
 use Rattle.layout.specs.Sheet.{alone}
 
 -- something read, and the place after it
@@ -68,10 +68,10 @@ readPairs (suc n) key named acc bytes at =
 
 -- a key that may come after another
 unfoldable pub keyFits : ℕ → ℕ → Bool
-keyFits last key = ltb last key && ltb key 65536 && not (eqb (key % 4096) 0)
+keyFits last key = ltb last key && isKey key
 
 unfoldable pub countFits : ℕ → Bool
-countFits count = leb 1 count && leb count 128
+countFits count = leb 1 count && leb count mostIds
 
 -- what stands in front of a set's pairs
 pub record Head : Type 0 where
@@ -110,6 +110,6 @@ readSets (suc n) last acc bytes at =
 -- at most 32 sets, and nothing left over
 unfoldable pub parseSheet : List ℕ → Option Content
 parseSheet bytes =
-    andThen (readIf (λ n. leb n 32) bytes 0) (λ count place.
+    andThen (readIf (λ n. leb n mostKeys) bytes 0) (λ count place.
     andThen (readSets count 0 [] bytes place) (λ t next.
     cond (eqb next (length bytes)) (some (justSets t)) none))

@@ -1,5 +1,6 @@
 // The actions: a recording or a sheet is read to its end, what is asked for is made of it in memory, and only then is anything
 // written. What is handed to `deliver` is proved to be all of what was asked for, of what was read (specs/Made.antt).
+ghost use Rattle.linkage.specs.Made.{Holding};
 use crate::figs_text;
 use crate::say::say;
 use crate::say::say_failed;
@@ -105,7 +106,21 @@ fn remark(received: Received) {
     }
 }
 
-// A recording: read, made into what is asked for, delivered, and remarked on.
+// A table that was read, with its rest, made into what is asked for, and delivered.
+fn hand_over(asked: Output, table: Table, rest: usize, target: Target, path: &[u8]) -> bool
+    requires { ⌜ Holding table rest ⌝ }
+{
+    let mut made = [0u8; 206000];
+    let written = write_output(asked, table, rest, &mut made);
+    let outcome = written.outcome;
+    let Outcome::Done = outcome else {
+        say_unwritten(outcome);
+        return false;
+    };
+    deliver(asked, target, path, front(&made, written.size))
+}
+
+// A recording: read, handed over, and remarked on.
 pub(crate) fn use_recording(
     asked: Output,
     source: Source,
@@ -119,21 +134,14 @@ pub(crate) fn use_recording(
         return false;
     }
     let table = received.table;
-    let mut made = [0u8; 206000];
-    let written = write_output(asked, table, received.rest, &mut made);
-    let outcome = written.outcome;
-    let Outcome::Done = outcome else {
-        say_unwritten(outcome);
-        return false;
-    };
-    if !deliver(asked, target, path, front(&made, written.size)) {
+    if !hand_over(asked, table, received.rest, target, path) {
         return false;
     }
     remark(received);
     true
 }
 
-// A sheet: loaded, made into what is asked for, and delivered.
+// A sheet: loaded, and handed over.
 pub(crate) fn use_sheet(
     asked: Output,
     source: Source,
@@ -153,14 +161,7 @@ pub(crate) fn use_sheet(
         return false;
     };
     let table = loaded.table;
-    let mut made = [0u8; 206000];
-    let written = write_output(asked, table, 0, &mut made);
-    let outcome = written.outcome;
-    let Outcome::Done = outcome else {
-        say_unwritten(outcome);
-        return false;
-    };
-    deliver(asked, target, path, front(&made, written.size))
+    hand_over(asked, table, 0, target, path)
 }
 
 // The FIGs of a recording, listed while it is read.

@@ -12,7 +12,7 @@ use borrow.Author.Tests.{lt-ltb, le-ltb, le-leb, lt-leb, ltb-true, ltb-false}
 use Rattle.rules.specs.Arrays.{padded}
 use Rattle.rules.specs.Field.{Pair, pair, namedBy, pairsOf, numberIn, kindIn}
 use Rattle.rules.specs.Family.{member, added, addedAll, extended, opening}
-use Rattle.rules.specs.Collecting.{linkage, IdSet, joinNames, brings}
+use Rattle.rules.specs.Collecting.{linkage, IdSet, joinNames, brings, mostIds}
 use Rattle.rules.proofs.FamilyLaws.{addedAll-grows, length-addedAll, added-new}
 use Rattle.rules.proofs.Basics.{cases-bool}
 use Rattle.rules.proofs.TableRules.{lawful, join-zero}
@@ -50,17 +50,17 @@ module _ (body : List ℕ) (f : Field) (count i : ℕ) (l : IdList) where
     unfolding grown
     grown-there b m t h = sym (ap (grown l) (fields-turn h) ∙ rw (stands b m ∙ t))
 
-    pub grown-put : (b : Bool) → b ≡ member linkage (pair k n) (drop 0 (pairsIn (l .kinds) (l .numbers) (l .len))) → b ≡ false → i < count → l .len < 128
+    pub grown-put : (b : Bool) → b ≡ member linkage (pair k n) (drop 0 (pairsIn (l .kinds) (l .numbers) (l .len))) → b ≡ false → i < count → l .len < mostIds
         → grown (put l (pair k n)) (fieldPairs body f (i + 1) (count - (i + 1))) ≡ grown l (fieldPairs body f i (count - i))
     unfolding grown
     grown-put b m t h g =
         ap (λ (x : Pair). grown (put l x) (fieldPairs body f (i + 1) (count - (i + 1)))) is-pair
-        ∙ sym (ap (grown l) (fields-turn h) ∙ rw (stands b m ∙ t, lt-ltb (l .len) 128 g))
+        ∙ sym (ap (grown l) (fields-turn h) ∙ rw (stands b m ∙ t, lt-ltb (l .len) mostIds g))
 
-    pub grown-full : (b : Bool) → b ≡ member linkage (pair k n) (drop 0 (pairsIn (l .kinds) (l .numbers) (l .len))) → b ≡ false → i < count → 128 ≤ l .len
+    pub grown-full : (b : Bool) → b ≡ member linkage (pair k n) (drop 0 (pairsIn (l .kinds) (l .numbers) (l .len))) → b ≡ false → i < count → mostIds ≤ l .len
         → grown l (fieldPairs body f i (count - i)) ≡ none
     unfolding grown
-    grown-full b m t h g = ap (grown l) (fields-turn h) ∙ rw (stands b m ∙ t, le-ltb (l .len) 128 g)
+    grown-full b m t h g = ap (grown l) (fields-turn h) ∙ rw (stands b m ∙ t, le-ltb (l .len) mostIds g)
 
   pub grown-end : count ≤ i → grown l (fieldPairs body f i (count - i)) ≡ some l
   unfolding grown fieldPairs
@@ -85,32 +85,32 @@ grown-from l m ps g e h = ap (λ (x : IdList). grown x ps) e ∙ h
 
 -- ---- on the stored form of a list
 
-put-store : (xs : List Pair) (named : ℕ) (p : Pair) → length xs < 128
+put-store : (xs : List Pair) (named : ℕ) (p : Pair) → length xs < mostIds
     → put (storeList (record { items = xs; named = named })) p ≡ storeList (record { items = xs ++ p ∷ []; named = named })
 unfolding put storeList numberIn kindIn
 put-store xs named p h =
-    let ns = set-column numberIn 128 (length xs) 0 xs p refl refl refl h in
-    let ks = set-column kindIn 128 (length xs) 0 xs p refl refl refl h in
+    let ns = set-column numberIn mostIds (length xs) 0 xs p refl refl refl h in
+    let ks = set-column kindIn mostIds (length xs) 0 xs p refl refl refl h in
     let len : length xs + 1 ≡ length (xs ++ p ∷ []) = sym (length-append xs (p ∷ [])) in
     λ i. record { numbers = ns i; kinds = ks i; len = len i; named = named }
 
 -- adding to a stored list is adding to its items, unless they become too many
-pub grown-store : (ps xs : List Pair) (named : ℕ) → length xs ≤ 128
+pub grown-store : (ps xs : List Pair) (named : ℕ) → length xs ≤ mostIds
     → grown (storeList (record { items = xs; named = named })) ps
-    ≡ cond (leb (length (addedAll linkage xs ps)) 128) (some (storeList (record { items = addedAll linkage xs ps; named = named }))) none
+    ≡ cond (leb (length (addedAll linkage xs ps)) mostIds) (some (storeList (record { items = addedAll linkage xs ps; named = named }))) none
 unfolding grown addedAll storeList
-grown-store [] xs named h = rw (le-leb (length xs) 128 h)
+grown-store [] xs named h = rw (le-leb (length xs) mostIds h)
 grown-store (p ∷ ps) xs named h =
     cases-bool (member linkage p xs)
     (λ t. rw (pairs-of, t, added-there t) (grown-store ps xs named h))
     (λ n. rw (pairs-of, n, added-new linkage lawful xs p n)
-    (cases-bool (ltb (length xs) 128)
-    (λ l. rw (l, put-store xs named p (ltb-true (length xs) 128 l)) (grown-store ps (xs ++ p ∷ []) named (rw (length-append xs (p ∷ [])) (omega (arith, ltb-true (length xs) 128 l)))))
+    (cases-bool (ltb (length xs) mostIds)
+    (λ l. rw (l, put-store xs named p (ltb-true (length xs) mostIds l)) (grown-store ps (xs ++ p ∷ []) named (rw (length-append xs (p ∷ [])) (omega (arith, ltb-true (length xs) mostIds l)))))
     (λ f.
     let g = addedAll-grows linkage (xs ++ p ∷ []) ps in
-    let long : 128 < length (addedAll linkage (xs ++ p ∷ []) ps) =
-    rw (g .1, length-append (xs ++ p ∷ []) (g .0), length-append xs (p ∷ [])) (omega (arith, ltb-false (length xs) 128 f)) in
-    rw (f, lt-leb (length (addedAll linkage (xs ++ p ∷ []) ps)) 128 long))))
+    let long : mostIds < length (addedAll linkage (xs ++ p ∷ []) ps) =
+    rw (g .1, length-append (xs ++ p ∷ []) (g .0), length-append xs (p ∷ [])) (omega (arith, ltb-false (length xs) mostIds f)) in
+    rw (f, lt-leb (length (addedAll linkage (xs ++ p ∷ []) ps)) mostIds long))))
   where
     pairs-of : pairsIn (storeList (record { items = xs; named = named }) .kinds) (storeList (record { items = xs; named = named }) .numbers) (storeList (record { items = xs; named = named }) .len) ≡ xs
     pairs-of = pairs-in-store (record { items = xs; named = named })
@@ -133,13 +133,13 @@ field-pairs body f r q = pairs-from body f r q 0 (f .count) (omega arith) ∙ pa
 
 none-named : (k : ℕ) → renamed emptyList (joinNames (emptyList .named) (namedBy k)) ≡ storeList (record { items = []; named = namedBy k })
 unfolding renamed emptyList storeList padded
-none-named k = ap (λ (n : ℕ). record { numbers = replicate 128 0; kinds = replicate 128 0; len = 0; named = n }) (join-zero (namedBy k))
+none-named k = ap (λ (n : ℕ). record { numbers = replicate mostIds 0; kinds = replicate mostIds 0; len = 0; named = n }) (join-zero (namedBy k))
 
 module _ (body : List ℕ) (f : Field) (r : InBody body f) (q : f .qualifier ≡ 2 → ⊥) where
   -- a continuation: the list extended, or dropped where it would be too long
-  pub with-store : (l : IdSet) → length (l .items) ≤ 128
+  pub with-store : (l : IdSet) → length (l .items) ≤ mostIds
       → withField (storeList l) body f
-      ≡ grownAs (cond (leb (length (extended linkage l (brings (meaning body f)) .items)) 128) (some (storeList (extended linkage l (brings (meaning body f))))) none)
+      ≡ grownAs (cond (leb (length (extended linkage l (brings (meaning body f)) .items)) mostIds) (some (storeList (extended linkage l (brings (meaning body f))))) none)
   unfolding withField extended brings renamed storeList meaning
   with-store l h =
       ap (λ (ps : List Pair). grownAs (grown (storeList (record { items = l .items; named = joinNames (l .named) (namedBy (f .qualifier)) })) ps)) (field-pairs body f r q)
@@ -149,9 +149,9 @@ module _ (body : List ℕ) (f : Field) (r : InBody body f) (q : f .qualifier ≡
   pub with-none : withField emptyList body f ≡ record { fits = true; list = storeList (opening linkage (brings (meaning body f))) }
   unfolding withField opening brings renamed meaning grownAs
   with-none =
-      let few : length (addedAll linkage [] (pairsOf (meaning body f))) ≤ 128 =
+      let few : length (addedAll linkage [] (pairsOf (meaning body f))) ≤ mostIds =
       omega (arith, length-addedAll linkage [] (pairsOf (meaning body f)), pairs-count body f, r .count) in
       let new : grown (storeList (record { items = []; named = namedBy (f .qualifier) })) (pairsOf (meaning body f))
       ≡ some (storeList (record { items = addedAll linkage [] (pairsOf (meaning body f)); named = namedBy (f .qualifier) })) =
-      grown-store (pairsOf (meaning body f)) [] (namedBy (f .qualifier)) (omega arith) ∙ rw (le-leb _ 128 few) in
+      grown-store (pairsOf (meaning body f)) [] (namedBy (f .qualifier)) (omega arith) ∙ rw (le-leb _ mostIds few) in
       ap₂ (λ (l : IdList) (ps : List Pair). grownAs (grown l ps)) (none-named (f .qualifier)) (field-pairs body f r q) ∙ ap grownAs new

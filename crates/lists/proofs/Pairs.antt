@@ -5,7 +5,7 @@ use native.Mathlib.Nat.{le-of-suc-le-suc, not-suc-le-zero}
 use native.Mathlib.Numerals.{add-one}
 use native.Mathlib.Omega.{arith}
 use mathlib.Core.Path.{_≡_, refl, sym, ap, _∙_}
-use mathlib.Core.Bool.{true, false}
+use mathlib.Core.Bool.{Bool, true, false, _&&_, and-true, and-false}
 use mathlib.Core.List.{List, [], _∷_}
 use lib.ListN.{length, getD, drop, length-take, drop-of-length-le}
 use lib.Dec.{eqb, ltb}
@@ -84,21 +84,26 @@ module _ (ks ns : List ℕ) (len k n from i end : ℕ) (len-is : end ≡ min len
 
 -- ---- a test of each number from a place on
 
+module _ (xs : List ℕ) (from : ℕ) where
+  -- what was found so far, and what is left, answer for the whole
+  abbrev pub Zeros : Bool → ℕ → Type 0
+  Zeros z j = (z && allZero (drop j xs)) ≡ allZero (drop from xs)
+
 module _ (xs : List ℕ) (from i : ℕ) where
   from-here : i < length xs → drop i xs ≡ getD xs i 0 ∷ drop (i + 1) xs
   from-here h = rw (add-one i) (drop-cons xs i 0 h)
 
-  pub zeros-next : i < length xs → getD xs i 0 ≡ 0 → allZero (drop i xs) ≡ allZero (drop from xs) → allZero (drop (i + 1) xs) ≡ allZero (drop from xs)
+  pub zeros-next : (z : Bool) → i < length xs → getD xs i 0 ≡ 0 → Zeros xs from z i → Zeros xs from z (i + 1)
   unfolding allZero
-  zeros-next h z e = sym (ap allZero (from-here h) ∙ rw (eq-eqb (getD xs i 0) 0 z)) ∙ e
+  zeros-next z h n e = sym (ap (λ (l : List ℕ). z && allZero l) (from-here h) ∙ rw (eq-eqb (getD xs i 0) 0 n)) ∙ e
 
-  pub zeros-not : i < length xs → (getD xs i 0 ≡ 0 → ⊥) → allZero (drop i xs) ≡ allZero (drop from xs) → false ≡ allZero (drop from xs)
+  pub zeros-not : (z : Bool) → i < length xs → (getD xs i 0 ≡ 0 → ⊥) → Zeros xs from z i → Zeros xs from false (i + 1)
   unfolding allZero
-  zeros-not h z e = sym (ap allZero (from-here h) ∙ rw (ne-eqb (getD xs i 0) 0 z)) ∙ e
+  zeros-not z h n e = sym (ap (λ (l : List ℕ). z && allZero l) (from-here h) ∙ (rw (ne-eqb (getD xs i 0) 0 n)) ∙ and-false z) ∙ e
 
-  pub zeros-end : length xs ≤ i → allZero (drop i xs) ≡ allZero (drop from xs) → true ≡ allZero (drop from xs)
+  pub zeros-end : (z : Bool) → length xs ≤ i → Zeros xs from z i → z ≡ allZero (drop from xs)
   unfolding allZero
-  zeros-end h e = sym (ap allZero (drop-of-length-le xs {i = i} h)) ∙ e
+  zeros-end z h e = sym (ap (λ (l : List ℕ). z && allZero l) (drop-of-length-le xs {i = i} h) ∙ and-true z) ∙ e
 
 -- ---- a test of each pair: `end` is the number of pairs
 

@@ -13,7 +13,7 @@ use lib.Seq.{take-append-seam}
 use borrow.Author.Tests.{eqb-true, eqb-false, eq-eqb, ne-eqb}
 use Rattle.rules.specs.Arrays.{padded}
 use Rattle.rules.specs.Field.{Pair, pair, numberIn, kindIn}
-use Rattle.rules.specs.Collecting.{IdSet, keyWidth, pairsMeet, namesMeet, allDiffer, notEmpty, mayBegin, beginsRight, ifThere}
+use Rattle.rules.specs.Collecting.{IdSet, keyWidth, pairsMeet, namesMeet, allDiffer, notEmpty, mayBegin, beginsRight, ifThere, mostIds}
 use Rattle.rules.proofs.Basics.{cases-bool, and-left, and-right}
 use Rattle.rules.proofs.Arrays.{length-padded, drop-padded, same-padded}
 use Rattle.rules.proofs.TableRules.{SetRules, set-rules, some-there, not-empty}
@@ -68,7 +68,7 @@ numbers-of-pairs (k ∷ ks) [] (suc len) e = absurd (omega arith)
 numbers-of-pairs (k ∷ ks) (n ∷ ns) (suc len) e = ap (λ (r : List ℕ). n ∷ r) (numbers-of-pairs ks ns len (omega arith))
 
 -- an array of zeros
-all-zeros : (xs : List ℕ) → length xs ≡ 128 → allZero xs ≡ true → xs ≡ replicate 128 0
+all-zeros : (xs : List ℕ) → length xs ≡ mostIds → allZero xs ≡ true → xs ≡ replicate mostIds 0
 all-zeros xs l z = zeros-replicate xs z ∙ ap (λ (k : ℕ). replicate k 0) l
 
 -- a set is not empty
@@ -85,7 +85,7 @@ first-kept key (a ∷ ks) (b ∷ ns) (suc len) e = e
 -- ---- what is read off a list that holds something
 
 pub record Facts (key : ℕ) (l : IdList) : Type 0 where
-  pub short : l .len ≤ 128
+  pub short : l .len ≤ mostIds
   pub numbers-end : allZero (drop (l .len) (l .numbers)) ≡ true
   pub kinds-end : allZero (drop (l .len) (l .kinds)) ≡ true
   pub unnamed : l .len ≡ 0 → l .named ≡ 0
@@ -110,8 +110,8 @@ unfolding storeList
 some-facts key l f =
     record {
       short = f .short;
-      numbers-end = rw (← length-map (l .items) numberIn) (padded-zeros 128 (map numberIn (l .items)));
-      kinds-end = rw (← length-map (l .items) kindIn) (padded-zeros 128 (map kindIn (l .items)));
+      numbers-end = rw (← length-map (l .items) numberIn) (padded-zeros mostIds (map numberIn (l .items)));
+      kinds-end = rw (← length-map (l .items) kindIn) (padded-zeros mostIds (map kindIn (l .items)));
       unnamed = λ z. absurd (not-none (l .items) (f .some) z);
       first = λ n. first-of key l (f .some) (f .first);
       names = λ n. f .names;
@@ -172,7 +172,7 @@ empty-by key l h z = sym (list-of-holds key l h .1) ∙ rw (eq-eqb (l .len) 0 z)
 
 -- ---- these facts are enough
 
-module _ (key : ℕ) (l : IdList) (f : Facts key l) (numbers-long : length (l .numbers) ≡ 128) (kinds-long : length (l .kinds) ≡ 128) where
+module _ (key : ℕ) (l : IdList) (f : Facts key l) (numbers-long : length (l .numbers) ≡ mostIds) (kinds-long : length (l .kinds) ≡ mostIds) where
   -- the set that is stored
   kept : IdSet
   kept = record { items = pairsIn (l .kinds) (l .numbers) (l .len); named = l .named }
@@ -183,19 +183,19 @@ module _ (key : ℕ) (l : IdList) (f : Facts key l) (numbers-long : length (l .n
   stored : l ≡ storeList kept
   unfolding storeList kept
   stored =
-      let ns : l .numbers ≡ padded 128 0 (map numberIn (pairsIn (l .kinds) (l .numbers) (l .len))) =
-      zeros-padded 128 (l .len) (l .numbers) numbers-long (f .short) (f .numbers-end)
-      ∙ ap (padded 128 0) (sym (numbers-of-pairs (l .kinds) (l .numbers) (l .len) (kinds-long ∙ sym numbers-long))) in
-      let ks : l .kinds ≡ padded 128 0 (map kindIn (pairsIn (l .kinds) (l .numbers) (l .len))) =
-      zeros-padded 128 (l .len) (l .kinds) kinds-long (f .short) (f .kinds-end)
-      ∙ ap (padded 128 0) (sym (kinds-of-pairs (l .kinds) (l .numbers) (l .len) (kinds-long ∙ sym numbers-long))) in
+      let ns : l .numbers ≡ padded mostIds 0 (map numberIn (pairsIn (l .kinds) (l .numbers) (l .len))) =
+      zeros-padded mostIds (l .len) (l .numbers) numbers-long (f .short) (f .numbers-end)
+      ∙ ap (padded mostIds 0) (sym (numbers-of-pairs (l .kinds) (l .numbers) (l .len) (kinds-long ∙ sym numbers-long))) in
+      let ks : l .kinds ≡ padded mostIds 0 (map kindIn (pairsIn (l .kinds) (l .numbers) (l .len))) =
+      zeros-padded mostIds (l .len) (l .kinds) kinds-long (f .short) (f .kinds-end)
+      ∙ ap (padded mostIds 0) (sym (kinds-of-pairs (l .kinds) (l .numbers) (l .len) (kinds-long ∙ sym numbers-long))) in
       λ i. record { numbers = ns i; kinds = ks i; len = sym length-kept i; named = l .named }
 
   kept-facts : (l .len ≡ 0 → ⊥) → SetRules key kept
   unfolding kept
   kept-facts n =
       record {
-        short = subst (λ (k : ℕ). k ≤ 128) (sym length-kept) (f .short);
+        short = subst (λ (k : ℕ). k ≤ mostIds) (sym length-kept) (f .short);
         some = not-empty (pairsIn (l .kinds) (l .numbers) (l .len)) (omega (arith, length-kept, n));
         first = first-kept key (l .kinds) (l .numbers) (l .len) (f .first n);
         differ = f .differ n;
@@ -206,8 +206,8 @@ module _ (key : ℕ) (l : IdList) (f : Facts key l) (numbers-long : length (l .n
   empty-stored : l .len ≡ 0 → l ≡ emptyList
   unfolding emptyList
   empty-stored z =
-      let ns : l .numbers ≡ replicate 128 0 = all-zeros (l .numbers) numbers-long (subst (λ (k : ℕ). allZero (drop k (l .numbers)) ≡ true) z (f .numbers-end)) in
-      let ks : l .kinds ≡ replicate 128 0 = all-zeros (l .kinds) kinds-long (subst (λ (k : ℕ). allZero (drop k (l .kinds)) ≡ true) z (f .kinds-end)) in
+      let ns : l .numbers ≡ replicate mostIds 0 = all-zeros (l .numbers) numbers-long (subst (λ (k : ℕ). allZero (drop k (l .numbers)) ≡ true) z (f .numbers-end)) in
+      let ks : l .kinds ≡ replicate mostIds 0 = all-zeros (l .kinds) kinds-long (subst (λ (k : ℕ). allZero (drop k (l .kinds)) ≡ true) z (f .kinds-end)) in
       let nm : l .named ≡ 0 = f .unnamed z in
       λ i. record { numbers = ns i; kinds = ks i; len = z i; named = nm i }
 
@@ -231,7 +231,7 @@ pub fails : {a b : Bool} → a ≡ b → a ≡ false → b ≡ true → ⊥
 fails e f t = false≢true (sym f ∙ e ∙ t)
 
 -- an empty list holds something exactly if it names nothing
-pub tested-empty : (key : ℕ) (l : IdList) → length (l .numbers) ≡ 128 → length (l .kinds) ≡ 128 → l .len ≡ 0
+pub tested-empty : (key : ℕ) (l : IdList) → length (l .numbers) ≡ mostIds → length (l .kinds) ≡ mostIds → l .len ≡ 0
     → allZero (drop (l .len) (l .numbers)) ≡ true → allZero (drop (l .len) (l .kinds)) ≡ true → Tested (eqb (l .named) 0) (Holds key l)
 tested-empty key l nl kl z zn zk =
     record {
@@ -251,13 +251,13 @@ tested-empty key l nl kl z zn zk =
 
 -- ---- the arrays of a list that holds something are 128 long
 
-store-long : (key : ℕ) (o : Option IdSet) → ifThere key o ≡ true → (length (storeMaybe o .numbers) ≡ 128) × (length (storeMaybe o .kinds) ≡ 128)
+store-long : (key : ℕ) (o : Option IdSet) → ifThere key o ≡ true → (length (storeMaybe o .numbers) ≡ mostIds) × (length (storeMaybe o .kinds) ≡ mostIds)
 unfolding storeMaybe emptyList storeList ifThere
 store-long key none m = (refl, refl)
 store-long key (some l) m =
-    let h : length (l .items) ≤ 128 = set-rules key l .0 m .short in
-    (length-padded 128 0 (map numberIn (l .items)) (rw length-map h), length-padded 128 0 (map kindIn (l .items)) (rw length-map h))
+    let h : length (l .items) ≤ mostIds = set-rules key l .0 m .short in
+    (length-padded mostIds 0 (map numberIn (l .items)) (rw length-map h), length-padded mostIds 0 (map kindIn (l .items)) (rw length-map h))
 
-pub holds-long : (key : ℕ) (l : IdList) → Holds key l → (length (l .numbers) ≡ 128) × (length (l .kinds) ≡ 128)
+pub holds-long : (key : ℕ) (l : IdList) → Holds key l → (length (l .numbers) ≡ mostIds) × (length (l .kinds) ≡ mostIds)
 unfolding Holds
-holds-long key l h = subst (λ (x : IdList). (length (x .numbers) ≡ 128) × (length (x .kinds) ≡ 128)) (sym (h .2)) (store-long key (h .0) (h .1))
+holds-long key l h = subst (λ (x : IdList). (length (x .numbers) ≡ mostIds) × (length (x .kinds) ≡ mostIds)) (sym (h .2)) (store-long key (h .0) (h .1))

@@ -7,7 +7,7 @@ use lib.ListN.{set}
 use lib.Dec.{ltb}
 use Rattle.rules.specs.Field.{Pair, namedBy}
 use Rattle.rules.specs.Family.{member}
-use Rattle.rules.specs.Collecting.{linkage, joinNames}
+use Rattle.rules.specs.Collecting.{linkage, joinNames, mostIds}
 use Rattle.field.specs.declared.Field.{Field}
 use Rattle.field.specs.FieldStep.{identifierAt, pairOf}
 use Rattle.lists.specs.declared.IdList.{IdList}
@@ -23,7 +23,7 @@ put l p =
 unfoldable pub grown : IdList → List Pair → Option IdList
 grown l [] = some l
 grown l (p ∷ ps) =
-    cond (member linkage p (pairsIn (l .kinds) (l .numbers) (l .len))) (grown l ps) (cond (ltb (l .len) 128) (grown (put l p) ps) none)
+    cond (member linkage p (pairsIn (l .kinds) (l .numbers) (l .len))) (grown l ps) (cond (ltb (l .len) mostIds) (grown (put l p) ps) none)
 
 -- the answer: whether all fit, and the list, or none
 unfoldable pub grownAs : Option IdList → Grown

@@ -9,22 +9,22 @@ use lib.ListN.{length, take, replicate}
 use lib.Dec.{eqb}
 use Rattle.rules.specs.Arrays.{padded}
 use Rattle.rules.specs.Field.{Pair, pair, numberIn, kindIn}
-use Rattle.rules.specs.Collecting.{IdSet, ifThere}
+use Rattle.rules.specs.Collecting.{IdSet, ifThere, mostIds}
 use Rattle.lists.specs.declared.IdList.{IdList}
 
 -- a list: numbers and kinds from place 0 on, zeros past them
 unfoldable pub storeList : IdSet → IdList
 storeList l =
     record {
-      numbers = padded 128 0 (map numberIn (l .items));
-      kinds = padded 128 0 (map kindIn (l .items));
+      numbers = padded mostIds 0 (map numberIn (l .items));
+      kinds = padded mostIds 0 (map kindIn (l .items));
       len = length (l .items);
       named = l .named;
     }
 
 -- no list
 unfoldable pub emptyList : IdList
-emptyList = record { numbers = replicate 128 0; kinds = replicate 128 0; len = 0; named = 0 }
+emptyList = record { numbers = replicate mostIds 0; kinds = replicate mostIds 0; len = 0; named = 0 }
 
 unfoldable pub storeMaybe : Option IdSet → IdList
 storeMaybe none = emptyList

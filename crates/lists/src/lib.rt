@@ -3,14 +3,14 @@
 // specs/Stored.antt; what a list may hold is ifThere of crate rules.
 
 ghost use mathlib.Core.Path.{_≡_};
-ghost use mathlib.Core.Bool.{Bool, not, _&&_};
+ghost use mathlib.Core.Bool.{not};
 ghost use lib.Dec.{ltb};
 ghost use Prim.Native.Nat.{_^_};
 ghost use Prim.Native.Nat.{min, max};
-ghost use lib.ListN.{length, drop};
+ghost use lib.ListN.{drop};
 ghost use Rattle.rules.specs.Field.{pair, namedBy};
 ghost use Rattle.rules.specs.Family.{member};
-ghost use Rattle.rules.specs.Collecting.{linkage, joinNames, keyWidth, mayBegin, kindNamed, namesMeet, pairsMeet, allDiffer};
+ghost use Rattle.rules.specs.Collecting.{linkage, joinNames, isKey, keyWidth, mayBegin, kindNamed, namesMeet, pairsMeet, allDiffer};
 ghost use Rattle.lists.specs.Kinds.{hasKind, isDead};
 ghost use Rattle.lists.specs.Grown.{withField};
 ghost use Rattle.lists.specs.Stored.{emptyList, pairsIn, allZero, Holds, Tested};
@@ -101,32 +101,45 @@ pub fn is_dead<'a>(kind: u8, named: bool, numbers: &'a [u32], kinds: &'a [u8], l
 
 // ---- the test of the table rules, for one list
 
-// Whether every number from a place on is zero.
+// Whether every number from a place on is zero. It looks at all of them, so that several are taken in one step.
 pub fn zeros_u32(numbers: &[u32], from: usize) -> bool
     ensures { λ r. ⌜ r ≡ allZero (drop from (now (numbers .entry))) ⌝ }
 {
+    let mut zero = true;
     let mut i = from;
     while i < numbers.len() {
         if numbers[i] != 0 {
-            return false;
+            zero = false;
         }
         i += 1;
     }
-    true
+    zero
 }
 
 // The same for bytes.
 fn zeros_u8(bytes: &[u8], from: usize) -> bool
     ensures { λ r. ⌜ r ≡ allZero (drop from (now (bytes .entry))) ⌝ }
 {
+    let mut zero = true;
     let mut i = from;
     while i < bytes.len() {
         if bytes[i] != 0 {
-            return false;
+            zero = false;
         }
         i += 1;
     }
-    true
+    zero
+}
+
+// Whether a number is a key: below 65,536, with LSN not 0.
+pub fn is_key(number: u32) -> bool
+    ensures { λ r. ⌜ r ≡ isKey number ⌝ }
+{
+    if number < 65536 {
+        number % 4096 != 0
+    } else {
+        false
+    }
 }
 
 // The bytes of an identifier of a key.
@@ -159,11 +172,11 @@ pub fn fits_key(key: u32, number: u32) -> bool
 pub fn kind_named(named: u8, kind: u8) -> bool
     ensures { λ r. ⌜ r ≡ kindNamed named kind ⌝ }
 {
-    if kind == 0 {
+    if kind == rules::DAB {
         true
-    } else if kind == 1 {
+    } else if kind == rules::RDS {
         named % 2 == 1
-    } else if kind == 3 {
+    } else if kind == rules::DRM {
         named / 2 == 1
     } else {
         false
@@ -174,7 +187,7 @@ pub fn kind_named(named: u8, kind: u8) -> bool
 pub fn may_begin(key: u32, kind: u8) -> bool
     ensures { λ r. ⌜ r ≡ mayBegin key kind ⌝ }
 {
-    kind == 0
+    kind == rules::DAB
 }
 
 // Whether a key's list may name these kinds.
@@ -264,9 +277,9 @@ pub struct Grown {
 fn named_by(qualifier: u8) -> u8
     ensures { λ r. ⌜ r ≡ namedBy qualifier ⌝ }
 {
-    if qualifier == 1 {
+    if qualifier == rules::RDS {
         1
-    } else if qualifier == 3 {
+    } else if qualifier == rules::DRM {
         2
     } else {
         0

@@ -5,7 +5,7 @@
 use rules::Outcome;
 ghost use mathlib.Core.Path.{_≡_};
 ghost use mathlib.Core.List.{[], _∷_};
-ghost use Prim.Native.Nat.{_≤_, _<_, _/_, _%_, _^_, min};
+ghost use Prim.Native.Nat.{_≤_, _<_, _/_, _%_, _^_};
 ghost use lib.ListN.{length, take};
 ghost use Rattle.out.specs.Text.{hexDigit, hexText, decimal};
 ghost use Rattle.out.specs.Put.{Puts};
@@ -28,18 +28,11 @@ pub fn put(out: &mut [u8], at: usize, b: u8) -> usize
     }
 }
 
-// A place, cut to the end of a buffer of this length: where a writer of nothing leaves off.
-pub fn cut_to(at: usize, room: usize) -> usize
-    ensures { λ r. ⌜ r ≡ min at room ⌝ }
-{
-    if at < room { at } else { room }
-}
-
 // Bytes at a place, and the place after them.
 pub fn put_bytes(out: &mut [u8], at: usize, bytes: &[u8]) -> usize
     ensures { λ r. ⌜ Puts (now (out .entry)) at (now (bytes .entry)) (now (out .exit)) r ⌝ }
 {
-    let mut p = cut_to(at, out.len());
+    let mut p = lists::least(at, out.len());
     let mut i = 0;
     while i < bytes.len() {
         p = put(out, p, bytes[i]);
@@ -80,7 +73,7 @@ fn digit_at(n: u32, place: usize) -> u8
 pub fn put_hex(out: &mut [u8], at: usize, digits: usize, n: u32) -> usize
     ensures { λ r. ⌜ Puts (now (out .entry)) at (hexText digits n) (now (out .exit)) r ⌝ }
 {
-    let mut p = cut_to(at, out.len());
+    let mut p = lists::least(at, out.len());
     let mut k = digits;
     while 0 < k {
         k -= 1;

@@ -12,7 +12,7 @@ use lib.Seq.{take-at, drop-at, getD-at, take-append-add, length-take-le, getD-ap
 use lib.Arith.{mod-mul}
 use lib.Dec.{leb, ltb, eqb}
 use borrow.Author.Tests.{eqb-true, eq-eqb, ne-eqb, le-ltb, le-leb, lt-leb}
-use Rattle.rules.specs.Block.{bit, checkOf, checkHolds, Step, item, end, whole, after, walk, figAt, figs}
+use Rattle.rules.specs.Block.{bit, checkOf, checkHolds, Step, item, end, Placed, whole, after, walk, Fig, figAt, figs}
 use Rattle.rules.specs.Field.{hasList, isContinuation, wrongValue, emptyStart, isLinking, Field, width, bigEndian, identifiers, listField, listBytes, fieldAt, fieldsOf}
 use Rattle.rules.specs.Collecting.{keyWidth}
 use Rattle.rules.specs.Outcomes.{joined, allFields, some?, judgeFields, judgeFigs, taken, verdict}
@@ -59,9 +59,10 @@ ids-back w (n ∷ ns) h =
 -- ---- walks
 
 -- one item and then the end
-walk-one : {A : Type 0} (at : ℕ → Step A) (n place next : ℕ) (a : A) → at place ≡ item a next → at next ≡ end → walk at (suc (suc n)) place ≡ whole (a ∷ [])
+walk-one : {A : Type 0} (from : ℕ) (at : ℕ → Step A) (n place next : ℕ) (a : A) → at place ≡ item a next → at next ≡ end
+    → walk from at (suc (suc n)) place ≡ whole (record { place = from + place; what = a } ∷ [])
 unfolding after
-walk-one at n place next a e f = walk-item at (suc n) place a next e ∙ ap (after a) (walk-end at n next f)
+walk-one from at n place next a e f = walk-item from at (suc n) place a next e ∙ ap (after _) (walk-end from at n next f)
 
 -- ---- the field of a FIG with one list
 
@@ -84,9 +85,13 @@ module _ (h a b q : ℕ) (ids : List ℕ) (flag : 128 ≤ a) (full : length ids 
       let e : leb L (4 + listBytes h a q) ≡ true = le-leb L (4 + listBytes h a q) (omega arith) in
       rw e
 
-  pub one-field : (t : ℕ) → fieldsOf (record { type = t; body = h ∷ a ∷ b ∷ q ∷ ids }) ≡ whole (listField h a b q ids ∷ [])
+  -- of a FIG that is the first of its block
+  pub one-field :
+      (t : ℕ) → fieldsOf (record { place = 0; what = record { type = t; body = h ∷ a ∷ b ∷ q ∷ ids } })
+      ≡ whole (record { place = 2; what = listField h a b q ids } ∷ [])
   unfolding fieldsOf
-  one-field t = walk-one (fieldAt (h ∷ a ∷ b ∷ q ∷ ids)) (suc (suc (length ids))) 1 (4 + listBytes h a q) (listField h a b q ids) field-there field-end
+  one-field t =
+      walk-one 1 (fieldAt (h ∷ a ∷ b ∷ q ∷ ids)) (suc (suc (length ids))) 1 (4 + listBytes h a q) (listField h a b q ids) field-there field-end
 
 -- ---- the field of a piece
 
@@ -209,13 +214,16 @@ list-full : (k : ℕ) (on : Bool) (c : Piece) → length (c .numbers) < 16
 unfolding listBytes
 list-full k on c n = rw (bytes-width k on c, count-count c n) (all-length (keyWidth k) (c .numbers))
 
--- the FIG of a piece
-pub fields-back : (k : ℕ) (on : Bool) (c : Piece) (t : ℕ) → c .qualifier < 4 → length (c .numbers) < 16 → Below (256 ^ keyWidth k) (c .numbers)
-    → fieldsOf (record { type = t; body = fieldBytes k on c }) ≡ whole (fieldOf k on c ∷ [])
-unfolding fieldBytes headByte flagByte countByte
-fields-back k on c t q n h =
-    one-field (headByte k c) (flagByte k on) (k % 256) (countByte c) (allBytes (keyWidth k) (c .numbers)) (flag-set k on) (list-full k on c n) t
-    ∙ ap (λ (f : Field). whole (f ∷ [])) (list-back k on c q n h)
+-- the FIG of a piece, first in its block
+unfoldable pub figOf : ℕ → Bool → Piece → Placed Fig
+figOf k on c = record { place = 0; what = record { type = 0; body = fieldBytes k on c } }
+
+pub fields-back : (k : ℕ) (on : Bool) (c : Piece) → c .qualifier < 4 → length (c .numbers) < 16 → Below (256 ^ keyWidth k) (c .numbers)
+    → fieldsOf (figOf k on c) ≡ whole (record { place = 2; what = fieldOf k on c } ∷ [])
+unfolding figOf fieldBytes headByte flagByte countByte
+fields-back k on c q n h =
+    one-field (headByte k c) (flagByte k on) (k % 256) (countByte c) (allBytes (keyWidth k) (c .numbers)) (flag-set k on) (list-full k on c n) 0
+    ∙ ap (λ (f : Field). whole (record { place = 2; what = f } ∷ [])) (list-back k on c q n h)
 
 -- ---- the block around a FIG
 
@@ -285,9 +293,9 @@ module _ (body tail : List ℕ) (some' : 0 < length body) (few : length body ≤
       let e2 : getD (L ∷ body ++ 255 ∷ tail) (1 + L) 0 ≡ 255 = getD-at (L ∷ body) 255 tail 0 (1 + L) (omega arith) in
       rw (e1, e2)
 
-  one-fig : figs (length body ∷ body ++ 255 ∷ tail) ≡ whole (record { type = 0; body = body } ∷ [])
+  one-fig : figs (length body ∷ body ++ 255 ∷ tail) ≡ whole (record { place = 0; what = record { type = 0; body = body } } ∷ [])
   unfolding figs
-  one-fig = walk-one (figAt (length body ∷ body ++ 255 ∷ tail)) 29 0 (1 + length body) (record { type = 0; body = body }) fig-there fig-end
+  one-fig = walk-one 0 (figAt (length body ∷ body ++ 255 ∷ tail)) 29 0 (1 + length body) (record { type = 0; body = body }) fig-there fig-end
 
 -- ---- the verdict
 
@@ -317,8 +325,8 @@ pub fig-length : (k : ℕ) (on : Bool) (c : Piece) → length (c .numbers) ≤ p
 unfolding figBytes
 fig-length k on c h = omega (arith, field-length k on c, ids-few k (length (c .numbers)) h)
 
-linking-back : (k : ℕ) (on : Bool) (c : Piece) → isLinking (record { type = 0; body = fieldBytes k on c }) ≡ true
-unfolding isLinking fieldBytes headByte
+linking-back : (k : ℕ) (on : Bool) (c : Piece) → isLinking (figOf k on c .what) ≡ true
+unfolding isLinking figOf fieldBytes headByte
 linking-back k on c = eq-eqb (headByte k c % 32) 6 (head-ext k c)
 
 -- a piece within the limits, of a key with an LSN, in a set that names nothing where P/D is 1
@@ -347,19 +355,19 @@ module _ (k named : ℕ) (c : Piece) (lsn : k % 4096 ≡ 0 → ⊥) (m : PieceMe
   start-begun on =
       cases-bool (c .more) (λ e. rw e) (λ e. rw e (ne-eqb (length (c .numbers)) 0 (λ z. omega (arith, m .begun e))))
 
-  figs-back : (on : Bool) → figs (blockOf (figBytes k on c)) ≡ whole (record { type = 0; body = fieldBytes k on c } ∷ [])
-  unfolding figBytes
+  figs-back : (on : Bool) → figs (blockOf (figBytes k on c)) ≡ whole (figOf k on c ∷ [])
+  unfolding figBytes figOf
   figs-back on =
       let n : length (fieldBytes k on c) ≡ 4 + length (c .numbers) * keyWidth k = field-length k on c in
       let f : length (figBytes k on c) ≤ 29 = fig-length k on c (m .few) in
       let front : (tail : List ℕ) × (blockOf (figBytes k on c) ≡ figBytes k on c ++ 255 ∷ tail) = block-front (figBytes k on c) f in
       ap figs (front .1) ∙ one-fig (fieldBytes k on c) (front .0) (omega arith) (omega arith)
 
-  all-fields-back : (on : Bool) → allFields (record { type = 0; body = fieldBytes k on c } ∷ []) ≡ whole (fieldOf k on c ∷ [])
+  all-fields-back : (on : Bool) → allFields (figOf k on c ∷ []) ≡ whole (record { place = 2; what = fieldOf k on c } ∷ [])
   unfolding allFields joined
   all-fields-back on =
       let few : length (c .numbers) < 16 = omega (arith, m .few, most-small (keyWidth k)) in
-      rw (linking-back k on c, fields-back k on c 0 (kind-small named (c .qualifier) (m .kind)) few (m .within))
+      rw (linking-back k on c, fields-back k on c (kind-small named (c .qualifier) (m .kind)) few (m .within))
 
   -- a piece's block is taken, with the piece's field alone
   pub verdict-back : (on : Bool) → verdict (blockOf (figBytes k on c)) ≡ taken (fieldOf k on c ∷ [])

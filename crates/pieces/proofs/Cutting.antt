@@ -11,7 +11,7 @@ use lib.Dec.{ltb, eqb}
 use borrow.Author.Tests.{ltb-true, eqb-true, eqb-false, lt-ltb, eq-eqb}
 use Rattle.rules.specs.Block.{bit}
 use Rattle.rules.specs.Field.{Pair, pair, startPairs, namedBy, dab, rds, drm}
-use Rattle.rules.specs.Collecting.{IdSet, joinNames, kindNamed, pairsMeet, notEmpty, beginsRight, setMeets, keyWidth}
+use Rattle.rules.specs.Collecting.{IdSet, joinNames, kindNamed, pairsMeet, notEmpty, beginsRight, setMeets, keyWidth, mostIds}
 use Rattle.lists.specs.Kinds.{hasKind}
 use Rattle.pieces.specs.Air.{Piece, goesOn, pieceWith, completed, chop, cut, deadLink, pieces, pieceMost}
 use Rattle.rules.proofs.Basics.{cases-bool, and-left, and-right, and-both, or-cases, or-false-left, or-false-right, true-false, bit-small, Every, every-append, map-append}
@@ -328,8 +328,8 @@ cut-dab w named most (p ∷ (q ∷ (s ∷ ss))) m h r d =
     rw e (omega (arith, chop-count most (pieceWith true c s) ss))
 
 -- a set of 128 identifiers at most needs 128 pieces at most: with two dead links all the others are DAB services
-pub pieces-count : (w most : ℕ) (l : IdSet) → 2 < most → length (l .items) ≤ 128 → pairsMeet w (l .named) (l .items) ≡ true
-    → length (pieces most l) ≤ 128
+pub pieces-count : (w most : ℕ) (l : IdSet) → 2 < most → length (l .items) ≤ mostIds → pairsMeet w (l .named) (l .items) ≡ true
+    → length (pieces most l) ≤ mostIds
 unfolding pieces
 pieces-count w most l m n h =
     let ps : List Pair = l .items in
@@ -492,7 +492,7 @@ unfolding pieceMost
 most-small w = cases-bool (eqb w 4) (λ e. rw e (omega arith)) (λ e. rw e (cases-bool (eqb w 3) (λ f. rw f (omega arith)) (λ f. rw f (omega arith))))
 
 -- a set needs at most 128 pieces
-pub set-count : (k : ℕ) (l : IdSet) → setMeets k l ≡ true → length (pieces (pieceMost (keyWidth k)) l) ≤ 128
+pub set-count : (k : ℕ) (l : IdSet) → setMeets k l ≡ true → length (pieces (pieceMost (keyWidth k)) l) ≤ mostIds
 set-count k l h =
     let s = set-rules k l .0 h in
     let m : 5 < pieceMost (keyWidth k) = most-room (keyWidth k) in

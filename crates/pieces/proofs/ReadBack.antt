@@ -10,15 +10,15 @@ use mathlib.Core.Option.{Option, none, some}
 use lib.ListN.{length, take, drop, length-append}
 use lib.Seq.{take-at, drop-at, drop-append-add}
 use lib.Dec.{ltb, eqb}
-use borrow.Author.Tests.{ltb-true, eqb-false, lt-ltb}
+use borrow.Author.Tests.{ltb-true, lt-ltb}
 use Rattle.rules.specs.Block.{bit}
 use Rattle.rules.specs.Field.{Field, keyOf, firstKind, pairsOf, namedBy, hasList, isContinuation}
 use Rattle.rules.specs.Family.{start, continuation, Said, step, steps}
-use Rattle.rules.specs.Collecting.{linkage, joinNames, IdSet, Held, Entries, Content, nothing, justSets, brings, actOf, said, keyWidth, setMeets, ifThere, entryMeets, ascends, entriesMeet, meets, Shown, showing, shownSets}
+use Rattle.rules.specs.Collecting.{linkage, joinNames, IdSet, Held, Entries, Content, nothing, justSets, brings, actOf, said, keyWidth, setMeets, ifThere, entryMeets, ascends, entriesMeet, meets, Shown, showing, shownSets, mostKeys}
 use Rattle.rules.specs.Outcomes.{verdict, taken, answerTo, readBlock, readBlocks, readRecording, leftOver}
 use Rattle.pieces.specs.Air.{Piece, pieceMost, pieces, figBytes, blockOf, blocksOf, setBlocks, allBlocks, air}
 use Rattle.rules.proofs.Basics.{cases-bool, cases-option, and-left, and-right, Every, every-append, every-imp}
-use Rattle.rules.proofs.TableRules.{kind-small, names-small, names-none, lawful, all-differ, SetRules, set-rules, entry-rules, table-rules, shown-few, join-assoc, join-to-zero}
+use Rattle.rules.proofs.TableRules.{kind-small, names-small, names-none, lawful, all-differ, SetRules, set-rules, entry-rules, key-meets, table-rules, shown-few, join-assoc, join-to-zero}
 use Rattle.rules.proofs.Sent.{KeysBefore, withPiece, withPieces, Continue, Sends, sent-new, sent-again}
 use Rattle.pieces.proofs.Cutting.{Below, piecePairs, flat, flat-pieces, IsMore, Shape, pieces-shape, PieceMeets, pieces-meet, most-room, set-count, piecesNamed, pieces-named}
 use Rattle.pieces.proofs.BlockBack.{fieldOf, block-length, verdict-back, piece-bytes}
@@ -142,7 +142,7 @@ module _ (k : ℕ) (l : IdSet) (parts : SetRules k l) where
 
     module _ (pre : Entries) (low : KeysBelow k pre) where
       -- a set of a new key: it is the open list, and nothing is shown
-      steps-new : length pre < 32 → steps linkage pre (map (saidOf k on) (piecesFor k l)) .0 ≡ pre ++ entry k on none (some l) ∷ []
+      steps-new : length pre < mostKeys → steps linkage pre (map (saidOf k on) (piecesFor k l)) .0 ≡ pre ++ entry k on none (some l) ∷ []
       unfolding entry
       steps-new r =
           sent-new linkage lawful k on pre (keys-before k pre low) l (parts .short) (all-differ (l .items) .0 (parts .differ)) (map (saidOf k on) (piecesFor k l))
@@ -292,7 +292,7 @@ keys-next t e h =
     every-append (λ (x : Held). x .key < suc (e .key)) t (e ∷ []) (keys-up (e .key) (suc (e .key)) t (omega arith) h) (omega arith, tt)
 
 -- read once: every set is the open list of its key
-first-pass : (pre : Entries) (last : ℕ) (ss : List Shown) (rest : List ℕ) → InOrder last ss → KeysBelow (suc last) pre → length pre + length ss ≤ 32
+first-pass : (pre : Entries) (last : ℕ) (ss : List Shown) (rest : List ℕ) → InOrder last ss → KeysBelow (suc last) pre → length pre + length ss ≤ mostKeys
     → readInto pre (allBlocks ss ++ rest) ≡ readInto (pre ++ map opened ss) rest
 unfolding allBlocks opened entry
 first-pass pre last [] rest o k n = ap (λ (t : Entries). readInto t rest) (sym (append-nil pre))
@@ -360,9 +360,10 @@ if-shown k o l e h = rw e at h
 sendable : (e : Held) (l : IdSet) → entryMeets e ≡ true → e .shown ≡ some l → Sendable (record { key = e .key; on = e .state; set = l })
 sendable e l h g =
     let r = entry-rules e .0 h in
+    let k = key-meets (e .key) .0 (r .key) in
     record {
-      small = r .below;
-      lsn = eqb-false (e .key % 4096) 0 (r .numbered);
+      small = k .0;
+      lsn = k .1;
       right = if-shown (e .key) (e .shown) l g (r .shown);
     }
 
@@ -381,7 +382,7 @@ content-order last (e ∷ es) a m =
 shown-order : (t : Content) → meets t ≡ true → InOrder 0 (shownSets (t .sets))
 shown-order t h = let r = table-rules (t .sets) .0 h in content-order 0 (t .sets) (r .ascend) (r .entries)
 
-shown-most : (t : Content) → meets t ≡ true → length (shownSets (t .sets)) ≤ 32
+shown-most : (t : Content) → meets t ≡ true → length (shownSets (t .sets)) ≤ mostKeys
 shown-most t h = omega (arith, shown-few (t .sets), table-rules (t .sets) .0 h .short)
 
 -- ---- the theorems

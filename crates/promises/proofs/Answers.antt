@@ -14,7 +14,7 @@ use Rattle.rules.specs.declared.Outcome.{Outcome}
 use Rattle.rules.specs.declared.Outcome.the-variants.{Done, NotHeld, ShortBuffer, WrongTable, NotShown}
 use Rattle.rules.specs.Field.{Field}
 use Rattle.rules.specs.Family.{find, forget, dropOpen}
-use Rattle.rules.specs.Collecting.{linkage, IdSet, Held, Entries, Content, withSets, meets}
+use Rattle.rules.specs.Collecting.{linkage, IdSet, Held, Entries, Content, withSets, meets, mostKeys}
 use Rattle.rules.specs.Outcomes as Outcomes
 use Rattle.rules.specs.Outcomes.{numberOf, taken, verdict, leftOver, heldOr, forgetOutcome, forgotten, copySet, copyHeld, copyOut, notCopied}
 use Rattle.rules.proofs.Basics.{cases-bool, cases-option, none-some, or-cases, or-false-left, or-false-right}
@@ -28,24 +28,20 @@ use Rattle.table.specs.Stored.{tableOf, storeTable, Stored, stored, notStored}
 use Rattle.table.specs.Answers.{forgottenAs, copiedAs}
 use Rattle.table.proofs.GivenLaws.{sets-are}
 use Rattle.sets.specs.declared.Sets.{Sets}
-use Rattle.sets.specs.Stored.{storeSets}
+use Rattle.sets.specs.Stored.{storeSets, withDraft}
+use Rattle.sets.proofs.StoreLaws.{store-closed}
 use Rattle.reading.specs.declared.Answer.{Answer}
 use Rattle.reading.specs.declared.Recorded.{Recorded}
 use Rattle.reading.specs.Steps.{storeNotes, noNotes}
 use Rattle.reading.specs.Runs.{runAs, refusedTable, recordedAs, unrecorded}
 use Rattle.reading.proofs.RunLaws.{no-notes}
-use Rattle.reading.proofs.Turns.{store-closed}
 use Rattle.promises.proofs.Contracts.{ReadsBlock, ReadsRecording, Forgets, CopiesOut}
 
 -- ---- reading a block: 0 to 6, or 9
 
--- held keys, on and off and shown sets are as they were; no list is open
-pub record OpenDropped (t u : Table) : Type 0 where
-  pub count : u .sets .count ≡ t .sets .count
-  pub keys : u .sets .keys ≡ t .sets .keys
-  pub on : u .sets .on ≡ t .sets .on
-  pub shown : u .sets .shown ≡ t .sets .shown
-  pub draft : u .sets .draft ≡ replicate 32 emptyList
+-- no list is open; held keys, on and off, shown sets, and whatever else there is, are as they were
+abbrev pub OpenDropped : Table → Table → Type 0
+OpenDropped t u = u ≡ tableOf (withDraft (t .sets) (replicate mostKeys emptyList))
 
 pub data BlockAnswer (t : Table) (fib : List ℕ) (r : Answer) : Type 0 where
   -- 0, with one note a field
@@ -58,17 +54,10 @@ pub data BlockAnswer (t : Table) (fib : List ℕ) (r : Answer) : Type 0 where
   wrongTable : (Stored t → ⊥) → numberOf (r .outcome) ≡ 9 → r .notes ≡ noNotes → r .table ≡ t → BlockAnswer t fib r
 
 dropped : (t u : Table) (c : Content) → meets c ≡ true → t ≡ storeTable c → u ≡ storeTable (withSets c (dropOpen linkage (c .sets))) → OpenDropped t u
-unfolding storeSets
 dropped t u c f p q =
-    let e = ap (λ (x : Table). x .sets) q ∙ store-closed (c .sets) (table-rules (c .sets) .0 f .short) in
-    let same = sym (sets-are t c f p) in
-    record {
-      count = ap (λ (x : Sets). x .count) e ∙ ap (λ (x : Sets). x .count) same;
-      keys = ap (λ (x : Sets). x .keys) e ∙ ap (λ (x : Sets). x .keys) same;
-      on = ap (λ (x : Sets). x .on) e ∙ ap (λ (x : Sets). x .on) same;
-      shown = ap (λ (x : Sets). x .shown) e ∙ ap (λ (x : Sets). x .shown) same;
-      draft = ap (λ (x : Sets). x .draft) e;
-    }
+    q
+    ∙ ap tableOf (store-closed (c .sets) (table-rules (c .sets) .0 f .short))
+    ∙ ap (λ (x : Sets). tableOf (withDraft x (replicate mostKeys emptyList))) (sym (sets-are t c f p))
 
 pub read-block-answers : (t : Table) (fib : List ℕ) (r : Answer) → ReadsBlock t fib r → BlockAnswer t fib r
 unfolding Stored runAs refusedTable numberOf storeNotes

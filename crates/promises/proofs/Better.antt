@@ -13,7 +13,7 @@ use Rattle.rules.specs.declared.Note.{Note}
 use Rattle.rules.specs.declared.Note.the-variants.{ShownAndOpened}
 use Rattle.rules.specs.Block.{checkHolds}
 use Rattle.rules.specs.Family.{steps}
-use Rattle.rules.specs.Collecting.{linkage, IdSet, Entries, Content, said, meets, Shown}
+use Rattle.rules.specs.Collecting.{linkage, IdSet, Entries, Content, said, meets, Shown, mostKeys}
 use Rattle.rules.specs.Outcomes.{Verdict, taken, refused, noBlock, verdict, answerTo, readBlock, forgotten}
 use Rattle.rules.specs.Receptions.{ShowsIn, Op, takes, refuses, ignores, forgets, afterOp, saidIn, WorseRun, ends, keeps, loses, ShowsRun, startedRun, keysRun}
 use Rattle.promises.specs.Demand3.{Operation, block, forgetting, afterOne, fieldsIn, saidBy, Worse, over, same, spoilt, ShowsAt, startedBy, keyCount}
@@ -135,7 +135,7 @@ shown-single t ops i j s s' a b =
 
 -- THE promise: from one table that meets the rules, where the keys held at the beginning or started in the better reception
 -- are at most 32
-pub better-never-contradicts : (t : Content) (better worse : List Operation) → meets t ≡ true → Worse better worse → keyCount t better ≤ 32
+pub better-never-contradicts : (t : Content) (better worse : List Operation) → meets t ≡ true → Worse better worse → keyCount t better ≤ mostKeys
     → (i j : ℕ) (s : Shown) → ShowsAt t worse i j s → ShowsAt t better i j s
 better-never-contradicts t better worse m r n i j s sh =
     rw (shows-run t better i j s)

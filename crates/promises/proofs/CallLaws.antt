@@ -12,7 +12,7 @@ use Rattle.rules.specs.declared.Outcome.the-variants.{Done}
 use Rattle.rules.specs.declared.Note.{Note}
 use Rattle.rules.specs.declared.Note.the-variants.{Opened, ShownAndOpened, Added, NoOpenList, Full, TooLong, StateOnly, UnknownKey, Dropped}
 use Rattle.rules.specs.Family.{find}
-use Rattle.rules.specs.Collecting.{linkage, IdSet, Held, Content, Shown}
+use Rattle.rules.specs.Collecting.{linkage, IdSet, Held, Content, Shown, mostIds}
 use Rattle.rules.specs.Outcomes as Outcomes
 use Rattle.rules.specs.Outcomes.{numberOf, noteNumber, Verdict, taken, refused, noBlock, verdict, answerTo, readBlock, copySet, copyHeld, copyOut}
 use Rattle.rules.specs.Receptions.{ShowsIn}
@@ -73,7 +73,7 @@ copy-call k c d ns ks r q nr kr nq kq s z e x y =
 
 -- a set that is shown is copied out, where both buffers have 128 places
 pub copy-shown : {u : Table} (k : ℕ) (c : Content) (ns ks : List ℕ) (r : Copied) (nr kr : List ℕ) → Stores u c → Showing linkage (find linkage k (c .sets))
-    → 128 ≤ length ns → 128 ≤ length ks → CopiesOut u k ns ks r nr kr → numberOf (r .outcome) ≡ 0
+    → mostIds ≤ length ns → mostIds ≤ length ks → CopiesOut u k ns ks r nr kr → numberOf (r .outcome) ≡ 0
 unfolding copyOut copyHeld copySet copiedAs numberOf
 copy-shown k c ns ks r nr kr s x n m y =
     let meets = subst (Within EntryMeets) (x .found) (every-found linkage EntryMeets k (c .sets) (table-meets (c .sets) .0 (s .0) .entries)) in

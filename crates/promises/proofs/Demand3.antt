@@ -5,7 +5,7 @@ use mathlib.Core.Path.{_≡_}
 use mathlib.Core.List.{List}
 use lib.ListN.{length, take, getElem?}
 use Rattle.rules.specs.Field.{Field, keyOf}
-use Rattle.rules.specs.Collecting.{Content, Shown}
+use Rattle.rules.specs.Collecting.{Content, Shown, mostKeys, mostIds}
 use Rattle.rules.specs.Outcomes.{numberOf}
 use Rattle.promises.specs.Demand3.{Operation, Worse, ShowsAt, keyCount}
 use Rattle.rules.proofs.Basics.{Every, every-take}
@@ -33,7 +33,7 @@ cut-shows t c holds ops bytes i j f xs n x =
 -- Two receptions of blocks of bytes, the second worse than the first, from one table that stores a content; the keys that are held in it
 -- or started in the better reception are at most 32.
 module _ (t : Table) (c : Content) (holds : Stores t c) (better worse : List Operation) (lacks : Worse better worse)
-    (room : keyCount c better ≤ 32) (bytes : Every OfBytes better) (others : Every OfBytes worse) where
+    (room : keyCount c better ≤ mostKeys) (bytes : Every OfBytes better) (others : Every OfBytes worse) where
   -- Where the worse run's reply i has note 2, shown and opened, at place j, operation i is the same in both, and the better run's reply i
   -- has note 2 at place j too, with outcome 0.
   pub better-calls-noted : {u v : Table} {rs qs : List Reply} → Calls t better rs u → Calls t worse qs v → (i j : ℕ) → NotedShown qs i j
@@ -60,7 +60,7 @@ module _ (t : Table) (c : Content) (holds : Stores t c) (better worse : List Ope
 -- j, copying the key of that field out into buffers of at least 128 places has outcome 0.
 pub noted-calls-copied : (t : Table) (c : Content) → Stores t c → (ops : List Operation) → Every OfBytes ops
     → {u : Table} {rs : List Reply} (i j : ℕ) (f : Field) → Calls t (take (suc i) ops) rs u → NotedShown rs i j → FieldAt ops i j f
-    → (ns ks : List ℕ) (a : Copied) (na ka : List ℕ) → 128 ≤ length ns → 128 ≤ length ks → CopiesOut u (keyOf f) ns ks a na ka
+    → (ns ks : List ℕ) (a : Copied) (na ka : List ℕ) → mostIds ≤ length ns → mostIds ≤ length ks → CopiesOut u (keyOf f) ns ks a na ka
     → numberOf (a .outcome) ≡ 0
 noted-calls-copied t c holds ops bytes i j f xs n x ns ks a na ka =
     let shown = cut-shows t c holds ops bytes i j f xs n x in

@@ -8,7 +8,7 @@ use mathlib.Core.Option.{some}
 use lib.ListN.{take, getElem?}
 use Rattle.rules.specs.Field.{Field, keyOf}
 use Rattle.rules.specs.Family.{Said, find}
-use Rattle.rules.specs.Collecting.{linkage, Entries, Content, said, meets, Shown}
+use Rattle.rules.specs.Collecting.{linkage, Entries, Content, said, meets, Shown, mostKeys}
 use Rattle.promises.specs.Demand3.{Operation, block, afterOne, fieldsIn, saidBy, Worse, over, same, spoilt, ShowsAt, keyCount}
 use Rattle.rules.proofs.Basics.{none-some}
 use Rattle.rules.proofs.Runs.{run}
@@ -78,7 +78,7 @@ same-operation (spoilt b c lb lc ch r) w (suc i) j s sh = same-operation r (afte
 
 -- from one content that meets the rules, with room: both receptions, cut after an operation at a field of which the worse one came to
 -- show a set, then hold the same of that set's key
-pub better-found : (c : Content) (better worse : List Operation) → meets c ≡ true → Worse better worse → keyCount c better ≤ 32
+pub better-found : (c : Content) (better worse : List Operation) → meets c ≡ true → Worse better worse → keyCount c better ≤ mostKeys
     → (i j : ℕ) (s : Shown) → ShowsAt c worse i j s
     → find linkage (s .key) (afterAll c (take (suc i) better) .sets) ≡ find linkage (s .key) (afterAll c (take (suc i) worse) .sets)
 better-found c better worse m r n i j s sh =

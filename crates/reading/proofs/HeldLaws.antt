@@ -9,7 +9,7 @@ use lib.ListN.{length, getD}
 use lib.Dec.{leb}
 use Rattle.rules.specs.declared.Note.the-variants.{Opened, ShownAndOpened, Added, NoOpenList, TooLong, StateOnly}
 use Rattle.rules.specs.Family.{Act, start, continuation, noList, entryWith, started, continued, onHeld, extended}
-use Rattle.rules.specs.Collecting.{linkage, IdSet, Held, brings, actOf, ifThere}
+use Rattle.rules.specs.Collecting.{linkage, IdSet, Held, brings, actOf, ifThere, mostIds}
 use Rattle.rules.proofs.Basics.{cases-bool}
 use Rattle.rules.proofs.TableRules.{set-rules}
 use Rattle.field.specs.declared.Field.{Field}
@@ -52,27 +52,27 @@ module _ (body : List ℕ) (f : Field) (r : InBody body f) (q : f .qualifier ≡
   longer : IdSet → IdSet
   longer d = extended linkage d (brings (meaning body f))
 
-  grown-fits : (d : IdSet) (g : Grown) → length (d .items) ≤ 128 → g ≡ withField (storeList d) body f → leb (length (longer d .items)) 128 ≡ true
+  grown-fits : (d : IdSet) (g : Grown) → length (d .items) ≤ mostIds → g ≡ withField (storeList d) body f → leb (length (longer d .items)) mostIds ≡ true
       → g ≡ record { fits = true; list = storeList (longer d) }
   unfolding longer grownAs
   grown-fits d g h w l = w ∙ with-store body f r q d h ∙ rw l
 
-  grown-not : (d : IdSet) (g : Grown) → length (d .items) ≤ 128 → g ≡ withField (storeList d) body f → leb (length (longer d .items)) 128 ≡ false
+  grown-not : (d : IdSet) (g : Grown) → length (d .items) ≤ mostIds → g ≡ withField (storeList d) body f → leb (length (longer d .items)) mostIds ≡ false
       → g ≡ record { fits = false; list = emptyList }
   unfolding longer grownAs
   grown-not d g h w l = w ∙ with-store body f r q d h ∙ rw l
 
-  continued-fits : (d : IdSet) → leb (length (longer d .items)) 128 ≡ true
+  continued-fits : (d : IdSet) → leb (length (longer d .items)) mostIds ≡ true
       → record { shows = false; draft = storeList (longer d); note = Added } ≡ steppedAs (continued linkage e s (brings (meaning body f)) (some d))
   unfolding longer continued entryWith steppedAs isShowing storeMaybe
   continued-fits d l = rw l
 
-  continued-not : (d : IdSet) → leb (length (longer d .items)) 128 ≡ false
+  continued-not : (d : IdSet) → leb (length (longer d .items)) mostIds ≡ false
       → record { shows = false; draft = emptyList; note = TooLong } ≡ steppedAs (continued linkage e s (brings (meaning body f)) (some d))
   unfolding longer continued entryWith steppedAs isShowing storeMaybe
   continued-not d l = rw l
 
-  short : (d : IdSet) → ifThere k (some d) ≡ true → length (d .items) ≤ 128
+  short : (d : IdSet) → ifThere k (some d) ≡ true → length (d .items) ≤ mostIds
   unfolding ifThere
   short d m = set-rules k d .0 m .short
 
@@ -81,7 +81,7 @@ module _ (body : List ℕ) (f : Field) (r : InBody body f) (q : f .qualifier ≡
   unfolding storeMaybe emptyList
   more-fits none g m n w t = absurd (n refl)
   more-fits (some d) g m n w t =
-      cases-bool (leb (length (longer d .items)) 128)
+      cases-bool (leb (length (longer d .items)) mostIds)
       (λ l. ap (λ (x : Grown). record { shows = false; draft = x .list; note = Added }) (grown-fits d g (short d m) w l) ∙ continued-fits d l)
       (λ l. absurd (false≢true (sym (ap (λ (x : Grown). x .fits) (grown-not d g (short d m) w l)) ∙ t)))
 
@@ -90,7 +90,7 @@ module _ (body : List ℕ) (f : Field) (r : InBody body f) (q : f .qualifier ≡
   unfolding storeMaybe emptyList
   more-not none g m n w t = absurd (n refl)
   more-not (some d) g m n w t =
-      cases-bool (leb (length (longer d .items)) 128)
+      cases-bool (leb (length (longer d .items)) mostIds)
       (λ l. absurd (true≢false (sym (ap (λ (x : Grown). x .fits) (grown-fits d g (short d m) w l)) ∙ t)))
       (λ l. ap (λ (x : Grown). record { shows = false; draft = x .list; note = TooLong }) (grown-not d g (short d m) w l) ∙ continued-not d l)
 

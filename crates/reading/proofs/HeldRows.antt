@@ -1,10 +1,11 @@
 -- A field of a held key on the rows of its shown set and its open list, case by case: the laws of HeldLaws.antt on the lists of the rows.
 use Prim.Native.Nat.{ℕ, _<_, _≤_}
 use native.Mathlib.Omega.{arith}
-use mathlib.Core.Path.{_≡_, refl, sym, _∙_, subst}
-use mathlib.Core.Bool.{Bool, true, false}
+use mathlib.Core.Path.{_≡_, refl, sym, subst}
+use mathlib.Core.Bool.{true, false}
 use mathlib.Core.List.{List}
 use lib.ListN.{length, getD, take}
+use Rattle.rules.specs.Collecting.{mostIds}
 use Rattle.rules.specs.declared.Note.{Note}
 use Rattle.rules.specs.declared.Note.the-variants.{Opened, ShownAndOpened, Added, NoOpenList, TooLong, StateOnly}
 use Rattle.rules.specs.Outcomes.{overwritten}
@@ -72,7 +73,7 @@ module _ (body : List ℕ) (f : Field) (bytes : (i : ℕ) → getD body i 0 < 25
         })
 
     pub row-shown : hasListIn f ≡ true → continues f ≡ false → (d .len ≡ 0 → ⊥) → appendedAs g dn' dk' ≡ withField (rowList dn dk (rowOf 0 0)) body f
-        → length dn ≡ 128 → length dk ≡ 128 → d .len ≤ 128 → (sn' sk' : List ℕ) → sn' ≡ overwritten (take (d .len) dn) sn → sk' ≡ overwritten (take (d .len) dk) sk
+        → length dn ≡ mostIds → length dk ≡ mostIds → d .len ≤ mostIds → (sn' sk' : List ℕ) → sn' ≡ overwritten (take (d .len) dn) sn → sk' ≡ overwritten (take (d .len) dk) sk
         → by (stepped d (g .row) ShownAndOpened) sn' sk' dn' dk'
     unfolding HeldStep isShowing rowList appendedAs
     row-shown h c n w ln lk short sn' sk' p q' e =

@@ -3,18 +3,18 @@ use Prim.Native.Nat.{ℕ, zero, suc, _+_, _-_, _<_, _≤_, min}
 use native.Mathlib.Nat.{le-of-suc-le-suc, not-suc-le-zero}
 use native.Mathlib.Numerals.{add-one}
 use native.Mathlib.Omega.{arith}
-use mathlib.Core.Path.{_≡_, refl, sym, ap, ap₂, _∙_}
+use mathlib.Core.Path.{_≡_, refl, sym, ap, _∙_}
 use mathlib.Core.Bool.{Bool, true, false}
 use mathlib.Core.List.{List, [], _∷_, _++_}
 use mathlib.Core.Option.{Option, none, some}
-use lib.ListN.{length, getD, set, take, drop, replicate, length-set}
+use lib.ListN.{length, set, take, drop, replicate}
 use lib.Seq.{length-take-le, take-suc-set, take-all, take-at}
 use borrow.Author.Tests.{ltb-true, ltb-false}
 use lib.Dec.{ltb}
 use Rattle.rules.specs.Arrays.{padded}
 use Rattle.rules.specs.Field.{Pair, pair, namedBy}
 use Rattle.rules.specs.Family.{member}
-use Rattle.rules.specs.Collecting.{linkage, joinNames}
+use Rattle.rules.specs.Collecting.{linkage, joinNames, mostIds}
 use Rattle.rules.specs.Outcomes.{overwritten}
 use Rattle.rules.proofs.Basics.{cases-bool}
 use Rattle.rules.proofs.Arrays.{set-padded}
@@ -22,12 +22,10 @@ use Rattle.field.specs.declared.Field.{Field}
 use Rattle.field.specs.declared.Identifier.{Identifier}
 use Rattle.field.specs.FieldStep.{identifierAt, pairOf}
 use Rattle.lists.specs.declared.IdList.{IdList}
-use Rattle.lists.specs.declared.Grown.{Grown}
 use Rattle.lists.specs.Stored.{paired, pairsIn, emptyList}
 use Rattle.lists.specs.Grown.{put, grown, grownAs, fieldPairs, renamed, withField}
 use Rattle.lists.proofs.GrownLaws.{grown-there, grown-put, grown-full, grown-end, with-field-is}
 use Rattle.reading.specs.declared.rows.Row.{Row}
-use Rattle.reading.specs.declared.rows.Appended.{Appended}
 use Rattle.reading.specs.Gathered.{rowList, packed, appendedAs}
 
 -- a row of this length that names these kinds
@@ -43,27 +41,27 @@ pairs-front (suc len) [] ns a b h g = absurd (not-suc-le-zero h)
 pairs-front (suc len) (k ∷ ks) [] a b h g = absurd (not-suc-le-zero g)
 pairs-front (suc len) (k ∷ ks) (n ∷ ns) a b h g = ap (λ (r : List Pair). pair k n ∷ r) (pairs-front len ks ns a b (le-of-suc-le-suc h) (le-of-suc-le-suc g))
 
-module _ (ns ks : List ℕ) (len named : ℕ) (hn : length ns ≡ 128) (hk : length ks ≡ 128) where
-  pub row-pairs : len ≤ 128 → pairsIn (rowList ns ks (rowOf len named) .kinds) (rowList ns ks (rowOf len named) .numbers) len ≡ pairsIn ks ns len
+module _ (ns ks : List ℕ) (len named : ℕ) (hn : length ns ≡ mostIds) (hk : length ks ≡ mostIds) where
+  pub row-pairs : len ≤ mostIds → pairsIn (rowList ns ks (rowOf len named) .kinds) (rowList ns ks (rowOf len named) .numbers) len ≡ pairsIn ks ns len
   unfolding pairsIn rowList padded
   row-pairs h = pairs-front len ks ns _ _ (omega arith) (omega arith)
 
   -- one pair more, stored at the row's end
-  pub row-put : (p : Pair) → len < 128 → put (rowList ns ks (rowOf len named)) p ≡ rowList (set ns len (p .number)) (set ks len (p .kind)) (rowOf (len + 1) named)
+  pub row-put : (p : Pair) → len < mostIds → put (rowList ns ks (rowOf len named)) p ≡ rowList (set ns len (p .number)) (set ks len (p .kind)) (rowOf (len + 1) named)
   unfolding put rowList
   row-put p h =
       let a = column ns (p .number) hn h in
       let b = column ks (p .kind) hk h in
       λ i. record { numbers = a i; kinds = b i; len = len + 1; named = named }
     where
-      column : (xs : List ℕ) (v : ℕ) → length xs ≡ 128 → len < 128 → set (padded 128 0 (take len xs)) len v ≡ padded 128 0 (take (len + 1) (set xs len v))
+      column : (xs : List ℕ) (v : ℕ) → length xs ≡ mostIds → len < mostIds → set (padded mostIds 0 (take len xs)) len v ≡ padded mostIds 0 (take (len + 1) (set xs len v))
       column xs v l h =
-          set-padded 128 len 0 v (take len xs) (length-take-le len xs (omega arith)) h
-          ∙ ap (padded 128 0) (sym (rw (add-one len) (take-suc-set xs len v (omega arith))))
+          set-padded mostIds len 0 v (take len xs) (length-take-le len xs (omega arith)) h
+          ∙ ap (padded mostIds 0) (sym (rw (add-one len) (take-suc-set xs len v (omega arith))))
 
 -- ---- one turn of the loop that adds a field's identifiers
 
-module _ (body : List ℕ) (f : Field) (count i : ℕ) (ns ks : List ℕ) (len named : ℕ) (hn : length ns ≡ 128) (hk : length ks ≡ 128) (hl : len ≤ 128)
+module _ (body : List ℕ) (f : Field) (count i : ℕ) (ns ks : List ℕ) (len named : ℕ) (hn : length ns ≡ mostIds) (hk : length ks ≡ mostIds) (hl : len ≤ mostIds)
     (id : Identifier) (k n : ℕ) (e : id ≡ identifierAt body f i) (p : k ≡ pairOf id .kind) (q : n ≡ pairOf id .number)
     (b : Bool) (m : b ≡ member linkage (pair k n) (drop 0 (pairsIn ks ns len))) where
   abbrev row' : IdList
@@ -76,14 +74,14 @@ module _ (body : List ℕ) (f : Field) (count i : ℕ) (ns ks : List ℕ) (len n
   unfolding rowList
   row-there t h = grown-there body f count i row' id k n e p q b stands t h
 
-  pub row-more : b ≡ false → i < count → len < 128
+  pub row-more : b ≡ false → i < count → len < mostIds
       → grown (rowList (set ns len n) (set ks len k) (rowOf (len + 1) named)) (fieldPairs body f (i + 1) (count - (i + 1))) ≡ grown row' (fieldPairs body f i (count - i))
   unfolding rowList pair
   row-more t h g =
       ap (λ (l : IdList). grown l (fieldPairs body f (i + 1) (count - (i + 1)))) (sym (row-put ns ks len named hn hk (pair k n) g))
       ∙ grown-put body f count i row' id k n e p q b stands t h g
 
-  pub row-full : b ≡ false → i < count → 128 ≤ len → grown row' (fieldPairs body f i (count - i)) ≡ none
+  pub row-full : b ≡ false → i < count → mostIds ≤ len → grown row' (fieldPairs body f i (count - i)) ≡ none
   unfolding rowList
   row-full t h g = grown-full body f count i row' id k n e p q b stands t h g
 
@@ -149,10 +147,10 @@ unfolding rowList
 row-copied ns ks ns' ks' sn sk n named h g p q =
     let a : take n ns' ≡ take n ns = ap (take n) p ∙ copy-front ns sn n h in
     let b : take n ks' ≡ take n ks = ap (take n) q ∙ copy-front ks sk n g in
-    λ i. record { numbers = padded 128 0 (a i); kinds = padded 128 0 (b i); len = n; named = named }
+    λ i. record { numbers = padded mostIds 0 (a i); kinds = padded mostIds 0 (b i); len = n; named = named }
 
 -- a list laid out in a row
-pub row-packed : (l : IdList) (ns' ks' sn sk : List ℕ) (n : ℕ) → length (l .numbers) ≡ 128 → length (l .kinds) ≡ 128 → n ≡ min (l .len) 128
+pub row-packed : (l : IdList) (ns' ks' sn sk : List ℕ) (n : ℕ) → length (l .numbers) ≡ mostIds → length (l .kinds) ≡ mostIds → n ≡ min (l .len) mostIds
     → ns' ≡ overwritten (take n (l .numbers)) sn → ks' ≡ overwritten (take n (l .kinds)) sk → rowList ns' ks' (rowOf n (l .named)) ≡ packed l
 unfolding packed
 row-packed l ns' ks' sn sk n hn hk e p q =

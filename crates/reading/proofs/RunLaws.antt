@@ -32,7 +32,7 @@ use Rattle.sets.specs.declared.Sets.{Sets}
 use Rattle.sets.specs.Stored.{storeSets}
 use Rattle.block.specs.declared.Spots.{Spots}
 use Rattle.block.specs.Judged.{noSpots, noSpot}
-use Rattle.block.proofs.Meaning.{SpotIs, noField, Placed}
+use Rattle.block.proofs.Meaning.{SpotIs, noField, SpotsAre}
 use Rattle.reading.specs.declared.Notes.{Notes}
 use Rattle.reading.specs.declared.Answer.{Answer as Run}
 use Rattle.reading.specs.Steps.{storeNotes, notedAs, notedAt, noNotes}
@@ -66,7 +66,7 @@ pub record Going (bytes : List ℕ) (t₀ : Table) (t : Sets) (notes : Notes) (o
   pub now-meets : meets now' ≡ true
   pub stored : t ≡ storeSets (now' .sets)
   pub fields : List FieldOf
-  pub placed : Placed (take 32 (drop from bytes)) spots fields
+  pub placed : SpotsAre (take 32 (drop from bytes)) spots fields
   pub good : Every GoodField fields
   pub inside : 0 < length fields → from + 32 ≤ length bytes
   pub noted : List Note
@@ -76,7 +76,7 @@ pub record Going (bytes : List ℕ) (t₀ : Table) (t : Sets) (notes : Notes) (o
   pub at-most : at ≤ length bytes
   pub answer : runBlocks (length bytes / 32) (begun first) bytes ≡ runBlocks ((length bytes - at) / 32) (resumed outcome noted now' (drop i fields)) (drop at bytes)
 
-placed-none : (fib : List ℕ) (spots : Spots) → spots .count ≡ 0 → Placed fib spots []
+placed-none : (fib : List ℕ) (spots : Spots) → spots .count ≡ 0 → SpotsAre fib spots []
 placed-none fib spots z = record { count = z; few = omega arith; each = λ i h. absurd (not-suc-le-zero h) }
 
 resumed-none : (o : Outcome) (ns : List Note) (c : Content) → resumed o ns c [] ≡ record { outcome = o; notes = ns; left = c }
@@ -204,7 +204,7 @@ module _ (bytes : List ℕ) (t₀ : Table) (t : Sets) (notes : Notes) (o : Outco
       ∙ ap (λ (r : List ℕ). runBlocks ((length bytes - (at + 32)) / 32) (readBlock (G .now') (take 32 (drop at bytes))) r) (drop-drop 32 at bytes)
 
   pub going-taken : spots .count ≤ i → 32 ≤ length bytes - at → ((j : ℕ) → getD bytes j 0 < 256) → (fs : List FieldOf) (spots' : Spots) (notes' : Notes) (o' : Outcome)
-      → verdict (take 32 (drop at bytes)) ≡ taken fs → Placed (take 32 (drop at bytes)) spots' fs → notes' ≡ noNotes → o' ≡ Done
+      → verdict (take 32 (drop at bytes)) ≡ taken fs → SpotsAre (take 32 (drop at bytes)) spots' fs → notes' ≡ noNotes → o' ≡ Done
       → Going bytes t₀ t notes' o' spots' at (at + 32) 0
   unfolding resumed
   going-taken h l b fs spots' notes' o' v p n d =

@@ -14,7 +14,7 @@ use Rattle.rules.specs.declared.Outcome.{Outcome}
 use Rattle.rules.specs.declared.Outcome.the-variants.{Done}
 use Rattle.rules.specs.declared.Note.{Note}
 use Rattle.rules.specs.declared.Note.the-variants.{Opened}
-use Rattle.rules.specs.Collecting.{IdSet, Held, Entries, setsMeet, entriesMeet, entryMeets, ifThere}
+use Rattle.rules.specs.Collecting.{IdSet, Held, Entries, setsMeet, entriesMeet, entryMeets, ifThere, mostKeys, mostIds}
 use Rattle.rules.specs.Field.{numberIn, kindIn}
 use Rattle.rules.specs.Outcomes.{verdict}
 use Rattle.rules.proofs.Basics.{and-left, and-right, getD-map}
@@ -26,9 +26,9 @@ use Rattle.lists.specs.declared.IdList.{IdList}
 use Rattle.lists.specs.Stored.{storeList, emptyList, storeMaybe}
 use Rattle.lists.specs.Grown.{withField}
 use Rattle.sets.specs.declared.Sets.{Sets}
-use Rattle.sets.specs.Stored.{storeSets, shownIn, draftIn, openedSets, past}
+use Rattle.sets.specs.Stored.{storeSets, shownIn, draftIn, openedSets, withLists, past}
 use Rattle.table.specs.declared.Table.{Table}
-use Rattle.table.specs.Stored.{tableOf, storeTable, Stored}
+use Rattle.table.specs.Stored.{tableOf, Stored}
 use Rattle.table.proofs.GivenLaws.{table-of}
 use Rattle.sets.specs.Places.{placeIn}
 use Rattle.block.specs.declared.Spots.{Spots}
@@ -36,29 +36,27 @@ use Rattle.block.specs.declared.Judged.{Judged}
 use Rattle.block.specs.Judged.{fieldIn, noSpot, noSpots}
 use Rattle.block.proofs.Meaning.{bodyAt, JudgedAs}
 use Rattle.reading.specs.declared.Answer.{Answer}
-use Rattle.reading.specs.declared.Head.{Head}
-use Rattle.reading.specs.declared.Notes.{Notes}
 use Rattle.reading.specs.declared.Reply.{Reply}
 use Rattle.reading.specs.declared.rows.Row.{Row}
 use Rattle.reading.specs.declared.rows.Rows.{Rows}
 use Rattle.reading.specs.declared.rows.Stepped.{Stepped}
 use Rattle.reading.specs.Steps.{isShowing, HeldStep, opensIn, unheldNote, noNotes, notedAt, isDone}
-use Rattle.reading.specs.Gathered.{rowList, gathered, setsOf, packed, noRows, Whole, Laid, RowStep}
+use Rattle.reading.specs.Gathered.{rowList, gathered, setsOf, packed, noRows, Whole, Laid, Unchanged, RowStep}
 use Rattle.reading.specs.Runs.{Runs}
-use Rattle.reading.proofs.StepLaws.{setAt}
+use Rattle.sets.proofs.StoreLaws.{setAt}
 use Rattle.reading.proofs.RunLaws.{Going, going-first, going-end}
 use Rattle.reading.proofs.Turns.{turn-held, turn-new, turn-same, turn-taken, turn-refused}
 use Rattle.reading.proofs.RowLaws.{rowOf}
-use Rattle.reading.proofs.GatheredLaws.{length-gathered, gathered-at, gathered-set, gathered-none, splice-long}
+use Rattle.reading.proofs.GatheredLaws.{length-gathered, gathered-at, gathered-set, gathered-none, unchanged-laid, unchanged-set, unchanged-none, splice-long}
 
 -- ---- a stored list is packed, and so are all lists of a stored table
 
-packed-some : (l : IdSet) → length (l .items) ≤ 128 → packed (storeList l) ≡ storeList l
+packed-some : (l : IdSet) → length (l .items) ≤ mostIds → packed (storeList l) ≡ storeList l
 unfolding packed rowList storeList
 packed-some l h =
-    let n : min (length (l .items)) 128 ≡ length (l .items) = omega arith in
-    let ns = ap (λ (k : ℕ). padded 128 0 (take k (padded 128 0 (map numberIn (l .items))))) n ∙ ap (padded 128 0) (take-padded 128 0 (map numberIn (l .items)) (length (l .items)) (length-map (l .items) numberIn)) in
-    let ks = ap (λ (k : ℕ). padded 128 0 (take k (padded 128 0 (map kindIn (l .items))))) n ∙ ap (padded 128 0) (take-padded 128 0 (map kindIn (l .items)) (length (l .items)) (length-map (l .items) kindIn)) in
+    let n : min (length (l .items)) mostIds ≡ length (l .items) = omega arith in
+    let ns = ap (λ (k : ℕ). padded mostIds 0 (take k (padded mostIds 0 (map numberIn (l .items))))) n ∙ ap (padded mostIds 0) (take-padded mostIds 0 (map numberIn (l .items)) (length (l .items)) (length-map (l .items) numberIn)) in
+    let ks = ap (λ (k : ℕ). padded mostIds 0 (take k (padded mostIds 0 (map kindIn (l .items))))) n ∙ ap (padded mostIds 0) (take-padded mostIds 0 (map kindIn (l .items)) (length (l .items)) (length-map (l .items) kindIn)) in
     λ i. record { numbers = ns i; kinds = ks i; len = n i; named = l .named }
 
 packed-none : packed emptyList ≡ emptyList
@@ -80,9 +78,9 @@ packed-entries v ok [] m = refl
 packed-entries v ok (e ∷ c) m = ap₂ _∷_ (ok e (and-left (entryMeets e) (entriesMeet c) m)) (packed-entries v ok c (and-right (entryMeets e) (entriesMeet c) m))
 
 packed-column : (v : Held → IdList) → ((e : Held) → entryMeets e ≡ true → packed (v e) ≡ v e) → (c : Entries) → entriesMeet c ≡ true
-    → map packed (padded 32 emptyList (map v c)) ≡ padded 32 emptyList (map v c)
+    → map packed (padded mostKeys emptyList (map v c)) ≡ padded mostKeys emptyList (map v c)
 unfolding padded
-packed-column v ok c m = map-append packed (map v c) (replicate (32 - length (map v c)) emptyList) ∙ ap₂ _++_ (packed-entries v ok c m) (packed-unused (32 - length (map v c)))
+packed-column v ok c m = map-append packed (map v c) (replicate (mostKeys - length (map v c)) emptyList) ∙ ap₂ _++_ (packed-entries v ok c m) (packed-unused (mostKeys - length (map v c)))
 
 module _ (t : Sets) (c : Entries) (m : setsMeet c ≡ true) (e : t ≡ storeSets c) where
   packed-shown : map packed (t .shown) ≡ t .shown
@@ -94,63 +92,63 @@ module _ (t : Sets) (c : Entries) (m : setsMeet c ≡ true) (e : t ≡ storeSets
   packed-draft = subst (λ (u : Sets). map packed (u .draft) ≡ u .draft) (sym e) (packed-column draftIn (λ x r. packed-maybe (x .key) (x .draft) (entry-rules x .0 r .draft)) c (table-rules c .0 m .entries))
 
   -- sets laid out are gathered again
-  pub laid : (h : Head) → h ≡ record { count = t .count; keys = t .keys; on = t .on } → (sn sk dn dk : List ℕ) (s d : Rows)
-      → gathered sn sk s ≡ map packed (t .shown) → gathered dn dk d ≡ map packed (t .draft) → setsOf h sn sk s dn dk d ≡ t
+  pub laid : (sn sk dn dk : List ℕ) (s d : Rows) → gathered sn sk s ≡ map packed (t .shown) → gathered dn dk d ≡ map packed (t .draft) → setsOf t (t .on) sn sk s dn dk d ≡ t
   unfolding setsOf
-  laid h he sn sk dn dk s d p q =
-      let a = p ∙ packed-shown in
-      let b = q ∙ packed-draft in
-      λ i. record { count = he i .count; keys = he i .keys; on = he i .on; shown = a i; draft = b i }
+  laid sn sk dn dk s d p q = ap₂ (withLists t (t .on)) (p ∙ packed-shown) (q ∙ packed-draft)
 
 -- a packed list has at most 128 places
-short-packed : (ls : List IdList) (p : ℕ) → map packed ls ≡ ls → p < length ls → getD ls p past .len ≤ 128
+short-packed : (ls : List IdList) (p : ℕ) → map packed ls ≡ ls → p < length ls → getD ls p past .len ≤ mostIds
 unfolding packed rowList
 short-packed ls p e h =
-    let n : getD ls p past .len ≡ min (getD ls p past .len) 128 = ap (λ (l : IdList). l .len) (ap (λ (x : List IdList). getD x p past) (sym e) ∙ getD-map packed ls p past past h) in
+    let n : getD ls p past .len ≡ min (getD ls p past .len) mostIds = ap (λ (l : IdList). l .len) (ap (λ (x : List IdList). getD x p past) (sym e) ∙ getD-map packed ls p past past h) in
     omega arith
 
 -- ---- what the loop keeps
 
-pub record Kept (bytes : List ℕ) (t₀ : Table) (h : Head) (sn sk : List ℕ) (s : Rows) (dn dk : List ℕ) (d : Rows) (reply : Reply) (spots : Spots) (from at i : ℕ) : Type 0 where
+-- the sets that were laid out, and the rows since
+pub record Kept (bytes : List ℕ) (t₀ : Table) (l : Sets) (on : List Bool) (sn sk : List ℕ) (s : Rows) (dn dk : List ℕ) (d : Rows) (reply : Reply) (spots : Spots) (from at i : ℕ) : Type 0 where
   pub shown : Whole sn sk s
   pub draft : Whole dn dk d
-  pub going : Going bytes t₀ (setsOf h sn sk s dn dk d) (reply .notes) (reply .outcome) spots from at i
+  pub shown-laid : Unchanged (l .shown) sn sk s
+  pub draft-laid : Unchanged (l .draft) dn dk d
+  pub going : Going bytes t₀ (setsOf l on sn sk s dn dk d) (reply .notes) (reply .outcome) spots from at i
 
-module _ (bytes : List ℕ) (t : Table) (stored : Stored t) (h : Head) (he : h ≡ record { count = t .sets .count; keys = t .sets .keys; on = t .sets .on })
-    (sn sk dn dk : List ℕ) (s d : Rows) (p : Laid (t .sets .shown) s sn sk) (q : Laid (t .sets .draft) d dn dk) where
-  pub first-table : tableOf (setsOf h sn sk s dn dk d) ≡ t
+module _ (bytes : List ℕ) (t : Table) (stored : Stored t) (sn sk dn dk : List ℕ) (s d : Rows) (p : Laid (t .sets .shown) s sn sk) (q : Laid (t .sets .draft) d dn dk) where
+  pub first-table : tableOf (setsOf (t .sets) (t .sets .on) sn sk s dn dk d) ≡ t
   unfolding Stored
   first-table =
-      ap tableOf (laid (t .sets) (stored .0 .sets) (stored .1) (ap (λ (u : Table). u .sets) (stored .2)) h he sn sk dn dk s d (p .same) (q .same))
+      ap tableOf (laid (t .sets) (stored .0 .sets) (stored .1) (ap (λ (u : Table). u .sets) (stored .2)) sn sk dn dk s d (p .same) (q .same))
       ∙ table-of t stored
 
   pub kept-first : (reply : Reply) → reply ≡ record { outcome = Done; notes = noNotes } → (spots : Spots) → spots ≡ noSpots
-      → Kept bytes (tableOf (setsOf h sn sk s dn dk d)) h sn sk s dn dk d reply spots 0 0 0
+      → Kept bytes (tableOf (setsOf (t .sets) (t .sets .on) sn sk s dn dk d)) (t .sets) (t .sets .on) sn sk s dn dk d reply spots 0 0 0
   unfolding Stored
   kept-first reply re spots se =
       record {
         shown = p .whole;
         draft = q .whole;
+        shown-laid = unchanged-laid (t .sets .shown) sn sk s (p .same ∙ packed-shown (t .sets) (stored .0 .sets) (stored .1) (ap (λ (u : Table). u .sets) (stored .2)));
+        draft-laid = unchanged-laid (t .sets .draft) dn dk d (q .same ∙ packed-draft (t .sets) (stored .0 .sets) (stored .1) (ap (λ (u : Table). u .sets) (stored .2)));
         going =
-            subst (λ (o : Outcome). Going bytes (tableOf (setsOf h sn sk s dn dk d)) (setsOf h sn sk s dn dk d) (reply .notes) o spots 0 0 0) (sym (ap (λ (x : Reply). x .outcome) re))
-            (going-first bytes (tableOf (setsOf h sn sk s dn dk d)) (reply .notes) spots (stored .0) (stored .1) (first-table ∙ stored .2) (ap (λ (x : Reply). x .notes) re) se);
+            subst (λ (o : Outcome). Going bytes (tableOf (setsOf (t .sets) (t .sets .on) sn sk s dn dk d)) (setsOf (t .sets) (t .sets .on) sn sk s dn dk d) (reply .notes) o spots 0 0 0) (sym (ap (λ (x : Reply). x .outcome) re))
+            (going-first bytes (tableOf (setsOf (t .sets) (t .sets .on) sn sk s dn dk d)) (reply .notes) spots (stored .0) (stored .1) (first-table ∙ stored .2) (ap (λ (x : Reply). x .notes) re) se);
       }
 
 -- ---- a turn
 
-module _ {bytes : List ℕ} {t₀ : Table} {h : Head} {sn sk : List ℕ} {s : Rows} {dn dk : List ℕ} {d : Rows} {reply : Reply} {spots : Spots} {from at i : ℕ}
-    (K : Kept bytes t₀ h sn sk s dn dk d reply spots from at i) where
+module _ {bytes : List ℕ} {t₀ : Table} {l : Sets} {on : List Bool} {sn sk : List ℕ} {s : Rows} {dn dk : List ℕ} {d : Rows} {reply : Reply} {spots : Spots} {from at i : ℕ}
+    (K : Kept bytes t₀ l on sn sk s dn dk d reply spots from at i) where
   abbrev t : Sets
-  t = setsOf h sn sk s dn dk d
+  t = setsOf l on sn sk s dn dk d
 
   -- an open list has at most 128 identifiers
-  pub draft-short : (p : ℕ) → p < 32 → (list : Row) → list ≡ rowOf (getD (d .lens) p 0) (getD (d .names) p 0) → list .len ≤ 128
+  pub draft-short : (p : ℕ) → p < mostKeys → (list : Row) → list ≡ rowOf (getD (d .lens) p 0) (getD (d .names) p 0) → list .len ≤ mostIds
   unfolding setsOf rowList
   draft-short p hp list le =
       let len-is = ap (λ (x : Row). x .len) le in
       let G = K .going in
       let short = short-packed (gathered dn dk d) p (packed-draft t (G .now' .sets) (G .now-meets) (G .stored)) (omega (arith, length-gathered dn dk d (K .draft))) in
-      let at-place = ap (λ (l : IdList). l .len) (gathered-at dn dk d (K .draft) p 128 refl hp) in
+      let at-place = ap (λ (l : IdList). l .len) (gathered-at dn dk d (K .draft) p mostIds refl hp) in
       omega arith
 
   -- the end
@@ -163,70 +161,80 @@ module _ {bytes : List ℕ} {t₀ : Table} {h : Head} {sn sk : List ℕ} {s : Ro
 
   -- a field
   module _ (lt : i < spots .count) (body : List ℕ) (body-is : body ≡ bodyAt (take 32 (drop from bytes)) (getD (spots .spots) i noSpot))
-      (f : Field) (f-is : f ≡ fieldIn body (getD (spots .spots) i noSpot .place)) (key : ℕ) (ke : key ≡ keyIn f) (p : ℕ) (p-is : p ≡ placeIn (take (h .count) (h .keys)) key)
+      (f : Field) (f-is : f ≡ fieldIn body (getD (spots .spots) i noSpot .place)) (key : ℕ) (ke : key ≡ keyIn f) (p : ℕ) (p-is : p ≡ placeIn (take (l .count) (l .keys)) key)
       (reply' : Reply) where
     abbrev noted' : Note → Type 0
     noted' n = reply' ≡ record { outcome = reply .outcome; notes = notedAt (reply .notes) i n }
 
     -- the reply keeps the outcome
-    kept-with : {h' : Head} {sn' sk' : List ℕ} {s' : Rows} {dn' dk' : List ℕ} {d' : Rows} (n : Note) → noted' n → Whole sn' sk' s' → Whole dn' dk' d'
-        → Going bytes t₀ (setsOf h' sn' sk' s' dn' dk' d') (reply' .notes) (reply .outcome) spots from at (i + 1) → Kept bytes t₀ h' sn' sk' s' dn' dk' d' reply' spots from at (i + 1)
-    kept-with {h'} {sn'} {sk'} {s'} {dn'} {dk'} {d'} n re ws wd G =
+    kept-with : {l' : Sets} {on' : List Bool} {sn' sk' : List ℕ} {s' : Rows} {dn' dk' : List ℕ} {d' : Rows} (n : Note) → noted' n → Whole sn' sk' s' → Whole dn' dk' d'
+        → Unchanged (l' .shown) sn' sk' s' → Unchanged (l' .draft) dn' dk' d'
+        → Going bytes t₀ (setsOf l' on' sn' sk' s' dn' dk' d') (reply' .notes) (reply .outcome) spots from at (i + 1) → Kept bytes t₀ l' on' sn' sk' s' dn' dk' d' reply' spots from at (i + 1)
+    kept-with {l'} {on'} {sn'} {sk'} {s'} {dn'} {dk'} {d'} n re ws wd us ud G =
         record {
           shown = ws;
           draft = wd;
-          going = subst (λ (o : Outcome). Going bytes t₀ (setsOf h' sn' sk' s' dn' dk' d') (reply' .notes) o spots from at (i + 1)) (sym (ap (λ (x : Reply). x .outcome) re)) G;
+          shown-laid = us;
+          draft-laid = ud;
+          going = subst (λ (o : Outcome). Going bytes t₀ (setsOf l' on' sn' sk' s' dn' dk' d') (reply' .notes) o spots from at (i + 1)) (sym (ap (λ (x : Reply). x .outcome) re)) G;
         }
 
     notes-are : (n : Note) → noted' n → reply' .notes ≡ notedAt (reply .notes) i n
     notes-are n re = ap (λ (x : Reply). x .notes) re
 
     -- of a held key
-    module _ (b : (ltb p (h .count) && eqb (getD (h .keys) p 0) key) ≡ true) (hp : p < 32) (k : ℕ) (k-is : k ≡ 128) (row list : Row)
+    module _ (b : (ltb p (l .count) && eqb (getD (l .keys) p 0) key) ≡ true) (hp : p < mostKeys) (k : ℕ) (k-is : k ≡ mostIds) (row list : Row)
         (row-is : row ≡ rowOf (getD (s .lens) p 0) (getD (s .names) p 0)) (list-is : list ≡ rowOf (getD (d .lens) p 0) (getD (d .names) p 0)) (r : Stepped) (sn' sk' dn' dk' : List ℕ)
         (step : RowStep body f row list r
-        (take k (drop (p * 128) sn)) (take k (drop (p * 128) sk)) (take k (drop (p * 128) dn)) (take k (drop (p * 128) dk)) sn' sk' dn' dk')
-        (lsn : length sn' ≡ 128) (lsk : length sk' ≡ 128) (ldn : length dn' ≡ 128) (ldk : length dk' ≡ 128) where
-      shown-at : getD (t .shown) p past ≡ rowList (take k (drop (p * 128) sn)) (take k (drop (p * 128) sk)) row
+        (take k (drop (p * mostIds) sn)) (take k (drop (p * mostIds) sk)) (take k (drop (p * mostIds) dn)) (take k (drop (p * mostIds) dk)) sn' sk' dn' dk')
+        (lsn : length sn' ≡ mostIds) (lsk : length sk' ≡ mostIds) (ldn : length dn' ≡ mostIds) (ldk : length dk' ≡ mostIds) where
+      shown-at : getD (t .shown) p past ≡ rowList (take k (drop (p * mostIds) sn)) (take k (drop (p * mostIds) sk)) row
       unfolding setsOf
-      shown-at = gathered-at sn sk s (K .shown) p k k-is hp ∙ ap (rowList (take k (drop (p * 128) sn)) (take k (drop (p * 128) sk))) (sym row-is)
+      shown-at = gathered-at sn sk s (K .shown) p k k-is hp ∙ ap (rowList (take k (drop (p * mostIds) sn)) (take k (drop (p * mostIds) sk))) (sym row-is)
 
-      draft-at : getD (t .draft) p past ≡ rowList (take k (drop (p * 128) dn)) (take k (drop (p * 128) dk)) list
+      draft-at : getD (t .draft) p past ≡ rowList (take k (drop (p * mostIds) dn)) (take k (drop (p * mostIds) dk)) list
       unfolding setsOf
-      draft-at = gathered-at dn dk d (K .draft) p k k-is hp ∙ ap (rowList (take k (drop (p * 128) dn)) (take k (drop (p * 128) dk))) (sym list-is)
+      draft-at = gathered-at dn dk d (K .draft) p k k-is hp ∙ ap (rowList (take k (drop (p * mostIds) dn)) (take k (drop (p * mostIds) dk))) (sym list-is)
 
       -- a column with a row exchanged, and all rows with one
       abbrev put' : List ℕ → List ℕ → List ℕ
-      put' xs row = take (p * 128) xs ++ (row ++ drop k (drop (p * 128) xs))
+      put' xs row = take (p * mostIds) xs ++ (row ++ drop k (drop (p * mostIds) xs))
 
       abbrev rows' : Rows → ℕ → ℕ → Rows
-      rows' x len named = record { lens = set (x .lens) p len; names = set (x .names) p named }
+      rows' x len named = record { lens = set (x .lens) p len; names = set (x .names) p named; changed = set (x .changed) p true }
 
-      abbrev head' : Head
-      head' = record { count = h .count; keys = h .keys; on = set (h .on) p (eqb (f .la) 1) }
+      abbrev on' : List Bool
+      on' = set on p (eqb (f .la) 1)
 
-      whole' : (xs ys : List ℕ) (x : Rows) → Whole xs ys x → (a b : List ℕ) → length a ≡ 128 → length b ≡ 128 → (len named : ℕ) → Whole (put' xs a) (put' ys b) (rows' x len named)
+      whole' : (xs ys : List ℕ) (x : Rows) → Whole xs ys x → (a b : List ℕ) → length a ≡ mostIds → length b ≡ mostIds → (len named : ℕ) → Whole (put' xs a) (put' ys b) (rows' x len named)
       whole' xs ys x w a b la lb len named =
           record {
             numbers = splice-long p k k-is hp xs (w .numbers) a la;
             kinds = splice-long p k k-is hp ys (w .kinds) b lb;
             lens = length-set (x .lens) p len ∙ w .lens;
             names = length-set (x .names) p named ∙ w .names;
+            changed = length-set (x .changed) p true ∙ w .changed;
           }
 
+      unchanged' : (ls : List IdList) (xs ys : List ℕ) (x : Rows) → Whole xs ys x → Unchanged ls xs ys x → (a b : List ℕ) → length a ≡ mostIds → length b ≡ mostIds → (len named : ℕ)
+          → Unchanged ls (put' xs a) (put' ys b) (rows' x len named)
+      unchanged' ls xs ys x w u a b la lb len named =
+          unchanged-set ls xs ys (put' xs a) (put' ys b) x (rows' x len named) p (rowList a b (rowOf len named)) (omega (arith, w .changed)) refl (gathered-set xs ys x w p k k-is hp a b la lb len named true) u
+
       table-is : setAt t p (eqb (f .la) 1) (rowList sn' sk' (r .shown)) (rowList dn' dk' (r .draft))
-          ≡ setsOf head' (put' sn sn') (put' sk sk') (rows' s (r .shown .len) (r .shown .named)) (put' dn dn') (put' dk dk') (rows' d (r .draft .len) (r .draft .named))
+          ≡ setsOf l on' (put' sn sn') (put' sk sk') (rows' s (r .shown .len) (r .shown .named)) (put' dn dn') (put' dk dk') (rows' d (r .draft .len) (r .draft .named))
       unfolding setAt setsOf
       table-is =
-          let a = gathered-set sn sk s (K .shown) p k k-is hp sn' sk' lsn lsk (r .shown .len) (r .shown .named) in
-          let b = gathered-set dn dk d (K .draft) p k k-is hp dn' dk' ldn ldk (r .draft .len) (r .draft .named) in
-          λ j. record { count = h .count; keys = h .keys; on = set (h .on) p (eqb (f .la) 1); shown = sym a j; draft = sym b j }
+          let a = gathered-set sn sk s (K .shown) p k k-is hp sn' sk' lsn lsk (r .shown .len) (r .shown .named) true in
+          let b = gathered-set dn dk d (K .draft) p k k-is hp dn' dk' ldn ldk (r .draft .len) (r .draft .named) true in
+          ap₂ (withLists l on') (sym a) (sym b)
 
       pub kept-held : noted' (r .note)
-          → Kept bytes t₀ head' (put' sn sn') (put' sk sk') (rows' s (r .shown .len) (r .shown .named)) (put' dn dn') (put' dk dk') (rows' d (r .draft .len) (r .draft .named)) reply' spots from at (i + 1)
+          → Kept bytes t₀ l on' (put' sn sn') (put' sk sk') (rows' s (r .shown .len) (r .shown .named)) (put' dn dn') (put' dk dk') (rows' d (r .draft .len) (r .draft .named)) reply' spots from at (i + 1)
       unfolding setsOf
       kept-held re =
           kept-with (r .note) re (whole' sn sk s (K .shown) sn' sk' lsn lsk (r .shown .len) (r .shown .named)) (whole' dn dk d (K .draft) dn' dk' ldn ldk (r .draft .len) (r .draft .named))
+          (unchanged' (l .shown) sn sk s (K .shown) (K .shown-laid) sn' sk' lsn lsk (r .shown .len) (r .shown .named)) (unchanged' (l .draft) dn dk d (K .draft) (K .draft-laid) dn' dk' ldn ldk (r .draft .len) (r .draft .named))
           (subst (λ (u : Sets). Going bytes t₀ u (reply' .notes) (reply .outcome) spots from at (i + 1)) table-is
           (turn-held bytes t₀ t (reply .notes) (reply .outcome) spots from at i (K .going) lt body body-is f f-is key ke p p-is b
           (record { draft = rowList dn' dk' (r .draft); shows = isShowing (r .note); note = r .note })
@@ -234,48 +242,53 @@ module _ {bytes : List ℕ} {t₀ : Table} {h : Head} {sn sk : List ℕ} {s : Ro
           (rowList sn' sk' (r .shown)) (step .showing ∙ ap₂ (λ (x y : IdList). cond (isShowing (r .note)) x y) (sym draft-at) (sym shown-at)) (reply' .notes) (notes-are (r .note) re)))
 
     -- of a key that is not held
-    module _ (b : (ltb p (h .count) && eqb (getD (h .keys) p 0) key) ≡ false) where
-      pub kept-new : opensIn f (h .count) ≡ true → ((n : ℕ) → getD bytes n 0 < 256) → (t' now' : Sets) → now' ≡ t → t' ≡ openedSets now' p key (eqb (f .la) 1) (withField emptyList body f .list)
-          → (h' : Head) → h' ≡ record { count = t' .count; keys = t' .keys; on = t' .on } → (sn' sk' dn' dk' : List ℕ) (s' d' : Rows) → Laid (t' .shown) s' sn' sk' → Laid (t' .draft) d' dn' dk' → noted' Opened
-          → Kept bytes t₀ h' sn' sk' s' dn' dk' d' reply' spots from at (i + 1)
+    module _ (b : (ltb p (l .count) && eqb (getD (l .keys) p 0) key) ≡ false) where
+      pub kept-new : opensIn f (l .count) ≡ true → ((n : ℕ) → getD bytes n 0 < 256) → (t' now' : Sets) → now' ≡ t → t' ≡ openedSets now' p key (eqb (f .la) 1) (withField emptyList body f .list)
+          → (sn' sk' dn' dk' : List ℕ) (s' d' : Rows) → Laid (t' .shown) s' sn' sk' → Laid (t' .draft) d' dn' dk' → noted' Opened
+          → Kept bytes t₀ t' (t' .on) sn' sk' s' dn' dk' d' reply' spots from at (i + 1)
       unfolding setsOf
-      kept-new open' b256 t' now' ne te h' he sn' sk' dn' dk' s' d' ps pd re =
+      kept-new open' b256 t' now' ne te sn' sk' dn' dk' s' d' ps pd re =
           let G = turn-new bytes t₀ t (reply .notes) (reply .outcome) spots from at i (K .going) lt body body-is f f-is key ke p p-is b open' b256 emptyList (withField emptyList body f) refl refl
           t' (te ∙ ap (λ (u : Sets). openedSets u p key (eqb (f .la) 1) (withField emptyList body f .list)) ne) (reply' .notes) (notes-are Opened re) in
           kept-with Opened re (ps .whole) (pd .whole)
-          (subst (λ (u : Sets). Going bytes t₀ u (reply' .notes) (reply .outcome) spots from at (i + 1)) (sym (laid t' (G .now' .sets) (G .now-meets) (G .stored) h' he sn' sk' dn' dk' s' d' (ps .same) (pd .same))) G)
+          (unchanged-laid (t' .shown) sn' sk' s' (ps .same ∙ packed-shown t' (G .now' .sets) (G .now-meets) (G .stored))) (unchanged-laid (t' .draft) dn' dk' d' (pd .same ∙ packed-draft t' (G .now' .sets) (G .now-meets) (G .stored)))
+          (subst (λ (u : Sets). Going bytes t₀ u (reply' .notes) (reply .outcome) spots from at (i + 1)) (sym (laid t' (G .now' .sets) (G .now-meets) (G .stored) sn' sk' dn' dk' s' d' (ps .same) (pd .same))) G)
 
-      pub kept-same : opensIn f (h .count) ≡ false → (n : Note) → n ≡ unheldNote f → noted' n → Kept bytes t₀ h sn sk s dn dk d reply' spots from at (i + 1)
+      pub kept-same : opensIn f (l .count) ≡ false → (n : Note) → n ≡ unheldNote f → noted' n → Kept bytes t₀ l on sn sk s dn dk d reply' spots from at (i + 1)
       unfolding setsOf
       kept-same shut' n ne re =
-          kept-with n re (K .shown) (K .draft)
+          kept-with n re (K .shown) (K .draft) (K .shown-laid) (K .draft-laid)
           (turn-same bytes t₀ t (reply .notes) (reply .outcome) spots from at i (K .going) lt body body-is f f-is key ke p p-is b shut' n ne (reply' .notes) (notes-are n re))
 
   -- a block
-  module _ (a : spots .count ≤ i) (l : 32 ≤ length bytes - at) (b256 : (n : ℕ) → getD bytes n 0 < 256) (part : List ℕ) (part-is : part ≡ take 32 (drop at bytes)) (r : Judged)
+  module _ (a : spots .count ≤ i) (more : 32 ≤ length bytes - at) (b256 : (n : ℕ) → getD bytes n 0 < 256) (part : List ℕ) (part-is : part ≡ take 32 (drop at bytes)) (r : Judged)
       (judged : JudgedAs part (verdict part) r) (reply' : Reply) (re : reply' ≡ record { outcome = r .outcome; notes = noNotes }) where
     outcome-is : r .outcome ≡ reply' .outcome
     outcome-is = sym (ap (λ (x : Reply). x .outcome) re)
 
-    pub kept-taken : isDone (r .outcome) ≡ true → Kept bytes t₀ h sn sk s dn dk d reply' (r .spots) at (at + 32) 0
+    pub kept-taken : isDone (r .outcome) ≡ true → Kept bytes t₀ l on sn sk s dn dk d reply' (r .spots) at (at + 32) 0
     kept-taken y =
         record {
           shown = K .shown;
           draft = K .draft;
+          shown-laid = K .shown-laid;
+          draft-laid = K .draft-laid;
           going =
               subst (λ (o : Outcome). Going bytes t₀ t (reply' .notes) o (r .spots) at (at + 32) 0) outcome-is
-              (turn-taken bytes t₀ t (reply .notes) (reply .outcome) spots from at i (K .going) a l b256 part part-is r (reply' .notes) (ap (λ (x : Reply). x .notes) re) judged y);
+              (turn-taken bytes t₀ t (reply .notes) (reply .outcome) spots from at i (K .going) a more b256 part part-is r (reply' .notes) (ap (λ (x : Reply). x .notes) re) judged y);
         }
 
-    pub kept-refused : isDone (r .outcome) ≡ false → (d' : Rows) → d' ≡ noRows → Kept bytes t₀ h sn sk s dn dk d' reply' (r .spots) at (at + 32) 0
+    pub kept-refused : isDone (r .outcome) ≡ false → (d' : Rows) → d' ≡ noRows → Kept bytes t₀ l on sn sk s dn dk d' reply' (r .spots) at (at + 32) 0
     unfolding setsOf
     kept-refused y d' de =
-        let no-lists : gathered dn dk d' ≡ replicate 32 emptyList = ap (gathered dn dk) de ∙ gathered-none dn dk in
+        let no-lists : gathered dn dk d' ≡ replicate mostKeys emptyList = ap (gathered dn dk) de ∙ gathered-none dn dk in
         record {
           shown = K .shown;
-          draft = subst (Whole dn dk) (sym de) (record { numbers = K .draft .numbers; kinds = K .draft .kinds; lens = unfold noRows in refl; names = unfold noRows in refl });
+          draft = subst (Whole dn dk) (sym de) (record { numbers = K .draft .numbers; kinds = K .draft .kinds; lens = unfold noRows in refl; names = unfold noRows in refl; changed = unfold noRows in refl });
+          shown-laid = K .shown-laid;
+          draft-laid = subst (Unchanged (l .draft) dn dk) (sym de) (unchanged-none (l .draft) dn dk);
           going =
-              subst (λ (o : Outcome). Going bytes t₀ (setsOf h sn sk s dn dk d') (reply' .notes) o (r .spots) at (at + 32) 0) outcome-is
-              (subst (λ (x : List IdList). Going bytes t₀ (record { count = h .count; keys = h .keys; on = h .on; shown = gathered sn sk s; draft = x }) (reply' .notes) (r .outcome) (r .spots) at (at + 32) 0) (sym no-lists)
-              (turn-refused bytes t₀ t (reply .notes) (reply .outcome) spots from at i (K .going) a l b256 part part-is r (reply' .notes) (ap (λ (x : Reply). x .notes) re) judged y emptyList refl));
+              subst (λ (o : Outcome). Going bytes t₀ (setsOf l on sn sk s dn dk d') (reply' .notes) o (r .spots) at (at + 32) 0) outcome-is
+              (subst (λ (x : List IdList). Going bytes t₀ (withLists l on (gathered sn sk s) x) (reply' .notes) (r .outcome) (r .spots) at (at + 32) 0) (sym no-lists)
+              (turn-refused bytes t₀ t (reply .notes) (reply .outcome) spots from at i (K .going) a more b256 part part-is r (reply' .notes) (ap (λ (x : Reply). x .notes) re) judged y emptyList refl));
         }

@@ -6,10 +6,10 @@ use mathlib.Core.Path.{_≡_, refl, sym, ap, ap₂, _∙_, subst}
 use mathlib.Core.Bool.{Bool, true, false, not, cond, _&&_, true≢false, false≢true}
 use mathlib.Core.List.{List, [], _∷_, map}
 use mathlib.Core.Option.{none}
-use lib.ListN.{length-take, length-drop, length, getD, set, take, drop, replicate, length-map}
+use lib.ListN.{length-take, length-drop, length, getD, set, take, drop, replicate}
 use lib.Dec.{ltb, eqb}
 use lib.Seq.{take-take, drop-drop}
-use borrow.Author.Tests.{ltb-true, ltb-false, eqb-true, eqb-false, not-true}
+use borrow.Author.Tests.{ltb-true, ltb-false, not-true}
 use Rattle.rules.specs.Arrays.{padded}
 use Rattle.rules.specs.declared.Outcome.{Outcome}
 use Rattle.rules.specs.declared.Outcome.the-variants.{Done, NotABlock, CheckFails, WrongFig, WrongField, WrongValue, EmptyStart, NotHeld, ShortBuffer, WrongTable, NotASheet, NotShown, TooMuch, TooManyPieces, BadCode}
@@ -18,12 +18,13 @@ use Rattle.rules.proofs.LinkageLaws.{Refusal, full-refusal, refused-not-done}
 use Rattle.rules.specs.declared.Note.{Note}
 use Rattle.rules.specs.declared.Note.the-variants.{Opened, Full, UnknownKey}
 use Rattle.rules.specs.Field.{Field as FieldOf, keyOf}
-use Rattle.rules.specs.Family.{Act, start, continuation, noList, step, onHeld, fresh, insert, opening, dropOpen, closed, entryWith}
-use Rattle.rules.specs.Collecting.{linkage, Held, Entries, said, actOf, brings, ascends, ifThere}
-use Rattle.rules.proofs.FamilyLaws.{onHeld-key}
+use Rattle.rules.specs.Family.{Act, start, continuation, noList, step, onHeld, fresh, insert, opening, dropOpen}
+use Rattle.rules.specs.Receptions.{heldKeys}
+use Rattle.rules.specs.Collecting.{linkage, Held, Entries, said, actOf, brings, ifThere, mostKeys}
+use Rattle.rules.proofs.FamilyLaws.{Ascends, onHeld-key}
 use Rattle.rules.proofs.Basics.{cases-bool, and-left, and-right}
-use Rattle.rules.proofs.Arrays.{padded-replicate}
-use Rattle.rules.proofs.TableRules.{table-rules, entry-rules}
+use Rattle.rules.proofs.TableRules.{table-rules, table-meets, entry-rules}
+use Rattle.rules.proofs.Entries.{column-at}
 use Rattle.field.specs.declared.Field.{Field}
 use Rattle.field.specs.declared.FieldStep.the-variants.{Found}
 use Rattle.field.specs.FieldStep.{meaning, keyIn, hasListIn, continues, fieldStepAt}
@@ -35,21 +36,21 @@ use Rattle.lists.specs.Grown.{withField}
 use Rattle.lists.proofs.GrownLaws.{with-none}
 use Rattle.sets.specs.declared.Sets.{Sets}
 use Rattle.table.specs.declared.Table.{Table}
-use Rattle.sets.specs.Stored.{onIn, shownIn, draftIn, storeSets, openedSets, past}
+use Rattle.sets.specs.Stored.{shownIn, draftIn, storeSets, openedSets, withDraft, past}
 use Rattle.sets.specs.Stored as S
 use Rattle.sets.specs.Places.{placeIn}
-use Rattle.sets.proofs.Entries.{Here}
+use Rattle.sets.proofs.Entries.{noEntry, Here, entry-at}
 use Rattle.sets.proofs.PlaceLaws.{stands, stands-not, place-at, count-of}
-use Rattle.sets.proofs.Entries.{column-at, entry-at}
+use Rattle.sets.proofs.StoreLaws.{setAt, store-set, store-closed}
 use Rattle.block.specs.declared.Spot.{Spot}
 use Rattle.block.specs.declared.Spots.{Spots}
 use Rattle.block.specs.declared.Judged.{Judged}
 use Rattle.block.specs.Judged.{fieldIn, noSpot}
-use Rattle.block.proofs.Meaning.{bodyAt, SpotIs, Placed, JudgedAs, isTaken, isRefused, isNoBlock}
+use Rattle.block.proofs.Meaning.{bodyAt, SpotIs, SpotsAre, JudgedAs, isTaken, isRefused, isNoBlock}
 use Rattle.reading.specs.declared.Notes.{Notes}
 use Rattle.reading.specs.Steps.{ListStep, isShowing, steppedAs, HeldStep, opensIn, unheldNote, notedAt, noNotes, isDone}
 use Rattle.reading.proofs.HeldLaws.{act-none, act-more, act-start}
-use Rattle.reading.proofs.StepLaws.{at', setAt, store-set, step-here, step-new, step-full, step-unknown-more, step-unknown-none, store-new, held-state, held-shown}
+use Rattle.reading.proofs.StepLaws.{at', step-here, step-new, step-full, step-unknown-more, step-unknown-none, store-new, held-state, held-shown}
 use Rattle.reading.proofs.RunLaws.{Going, field-now, spot-now, good-now, more-fields, few-fields, going-next, going-taken, going-refused, part-bytes}
 
 -- ---- a part of a part
@@ -144,16 +145,16 @@ module _ (bytes : List ℕ) (t₀ : Table) (t : Sets) (notes : Notes) (o : Outco
     j = placeIn (map S.keyIn c) (keyOf g)
 
     within : j < length c
-    unfolding j Here
+    unfolding j
     within = here b .0
 
     x : Held
     x = at' c (keyOf g)
 
-    column : {B : Type 0} (v : Held → B) (d e : B) (ys : Sets → List B) → ys (storeSets c) ≡ padded 32 d (map v c) → getD (ys t) p e ≡ v x
+    column : {B : Type 0} (v : Held → B) (d e : B) (ys : Sets → List B) → ys (storeSets c) ≡ padded mostKeys d (map v c) → getD (ys t) p e ≡ v x
     unfolding c j x
     column v d e ys q =
-        ap₂ (λ (u : Sets) (k : ℕ). getD (ys u) k e) (G .stored) place ∙ ap (λ (l : List _). getD l j e) q ∙ column-at v d e c j within
+        ap₂ (λ (u : Sets) (k : ℕ). getD (ys u) k e) (G .stored) place ∙ ap (λ (l : List _). getD l j e) q ∙ column-at v mostKeys d c j e noEntry within
 
     shown-is : getD (t .shown) p past ≡ storeMaybe (x .shown)
     unfolding storeSets shownIn
@@ -211,9 +212,9 @@ module _ (bytes : List ℕ) (t₀ : Table) (t : Sets) (notes : Notes) (o : Outco
   -- ---- a key that is not held
 
   module _ (b : (ltb p (t .count) && eqb (getD (t .keys) p 0) key) ≡ false) where
-    ascending : ascends 0 c ≡ true
+    ascending : Ascends linkage (heldKeys linkage c)
     unfolding c
-    ascending = table-rules c .0 (G .now-meets) .ascend
+    ascending = table-meets c .0 (G .now-meets) .ascend
 
     count-is : t .count ≡ length c
     unfolding c
@@ -230,7 +231,7 @@ module _ (bytes : List ℕ) (t₀ : Table) (t : Sets) (notes : Notes) (o : Outco
     turn-new open' b256 l w le we t' te notes' q =
         let has : hasListIn f ≡ true = and-left (hasListIn f) _ (and-left (hasListIn f && not (continues f)) _ open') in
         let starts : continues f ≡ false = not-true (continues f) (and-right (hasListIn f) _ (and-left (hasListIn f && not (continues f)) _ open')) in
-        let few : length c < 32 = subst (λ (n : ℕ). n < 32) count-is (ltb-true (t .count) 32 (and-right (hasListIn f && not (continues f)) _ open')) in
+        let few : length c < mostKeys = subst (λ (n : ℕ). n < mostKeys) count-is (ltb-true (t .count) mostKeys (and-right (hasListIn f && not (continues f)) _ open')) in
         let act : actOf g ≡ start (brings g) = act-is noList (λ y. start (brings y)) (act-start body f has starts) in
         let list' : w .list ≡ storeList (opening linkage (brings g)) =
         ap (λ (x : Grown). x .list) (we ∙ ap (λ (x : IdList). withField x body f) le ∙ with-none body f (inside b256) reserved)
@@ -259,45 +260,13 @@ module _ (bytes : List ℕ) (t₀ : Table) (t : Sets) (notes : Notes) (o : Outco
         (λ more. same UnknownKey (step-unknown-more c g ascending (nowhere b) (act-is noList (λ y. continuation (brings y)) (act-more body f has more))) notes'
         (q ∙ ap (notedAt notes i) (ne ∙ rw (has, more))))
         (λ starts.
-        let full : 32 ≤ length c = subst (λ (k : ℕ). 32 ≤ k) count-is (ltb-false (t .count) 32 (rw (has, starts) at shut')) in
+        let full : mostKeys ≤ length c = subst (λ (k : ℕ). mostKeys ≤ k) count-is (ltb-false (t .count) mostKeys (rw (has, starts) at shut')) in
         same Full (step-full c g ascending (nowhere b) (act-is noList (λ y. start (brings y)) (act-start body f has starts)) full) notes'
         (q ∙ ap (notedAt notes i) (ne ∙ rw (has, starts)))))
         (λ has. same UnknownKey (step-unknown-none c g ascending (nowhere b) (act-is noList (λ y. noList) (act-none body f has))) notes'
         (q ∙ ap (notedAt notes i) (ne ∙ rw has)))
 
 -- ---- a refused block
-
-closed-draft : (c : Entries) → map draftIn (map (closed linkage) c) ≡ replicate (length c) emptyList
-unfolding closed entryWith draftIn storeMaybe
-closed-draft [] = refl
-closed-draft (e ∷ c) = ap (λ (r : List IdList). emptyList ∷ r) (closed-draft c)
-
-same-column : {B : Type 0} (v : Held → B) → ((e : Held) → v (closed linkage e) ≡ v e) → (c : Entries) → map v (map (closed linkage) c) ≡ map v c
-same-column v s [] = refl
-same-column v s (e ∷ c) = ap₂ _∷_ (s e) (same-column v s c)
-
-keys-same : (e : Held) → S.keyIn (closed linkage e) ≡ S.keyIn e
-unfolding closed entryWith S.keyIn
-keys-same e = refl
-
-on-same : (e : Held) → onIn (closed linkage e) ≡ onIn e
-unfolding closed entryWith onIn
-on-same e = refl
-
-shown-same : (e : Held) → shownIn (closed linkage e) ≡ shownIn e
-unfolding closed entryWith shownIn
-shown-same e = refl
-
-pub store-closed : (c : Entries) → length c ≤ 32
-    → storeSets (dropOpen linkage c) ≡ record { count = length c; keys = storeSets c .keys; on = storeSets c .on; shown = storeSets c .shown; draft = replicate 32 emptyList }
-unfolding storeSets dropOpen
-store-closed c h =
-    let n = length-map c (closed linkage) in
-    let ks = ap (padded 32 0) (same-column S.keyIn keys-same c) in
-    let os = ap (padded 32 false) (same-column onIn on-same c) in
-    let ss = ap (padded 32 emptyList) (same-column shownIn shown-same c) in
-    let ds = ap (padded 32 emptyList) (closed-draft c) ∙ padded-replicate 32 (length c) emptyList h in
-    λ i. record { count = n i; keys = ks i; on = os i; shown = ss i; draft = ds i }
 
 -- ---- what keeps the loop's indices within
 
@@ -318,10 +287,10 @@ module _ (bytes : List ℕ) (t₀ : Table) (t : Sets) (notes : Notes) (o : Outco
         few = few-fields bytes t₀ t notes o spots from at i G h;
       }
 
-  pub table-short : t .count ≤ 32
+  pub table-short : t .count ≤ mostKeys
   table-short = omega (arith, count-of t (G .now' .sets) (G .stored), table-rules (G .now' .sets) .0 (G .now-meets) .short)
 
-  pub place-short : (p k : ℕ) → (ltb p (t .count) && eqb (getD (t .keys) p 0) k) ≡ true → p < 32
+  pub place-short : (p k : ℕ) → (ltb p (t .count) && eqb (getD (t .keys) p 0) k) ≡ true → p < mostKeys
   place-short p k b = omega (arith, table-short, ltb-true p (t .count) (and-left (ltb p (t .count)) _ b))
 
 -- an outcome that is done is 0
@@ -365,20 +334,19 @@ module _ (bytes : List ℕ) (t₀ : Table) (t : Sets) (notes : Notes) (o : Outco
   never-none v = subst (Refusal fib) (ap verdict (sym part-is) ∙ v) (full-refusal fib full)
 
   closed-table : (n : IdList) → n ≡ emptyList
-      → record { count = t .count; keys = t .keys; on = t .on; shown = t .shown; draft = replicate 32 n } ≡ storeSets (dropOpen linkage (G .now' .sets))
+      → withDraft t (replicate mostKeys n) ≡ storeSets (dropOpen linkage (G .now' .sets))
   closed-table n ne =
-      (λ k. record { count = G .stored k .count; keys = G .stored k .keys; on = G .stored k .on; shown = G .stored k .shown; draft = replicate 32 (ne k) })
-      ∙ ap (λ (m : ℕ). record { count = m; keys = storeSets (G .now' .sets) .keys; on = storeSets (G .now' .sets) .on; shown = storeSets (G .now' .sets) .shown; draft = replicate 32 emptyList }) (count-of (storeSets (G .now' .sets)) (G .now' .sets) refl)
+      ap₂ (λ (u : Sets) (x : IdList). withDraft u (replicate mostKeys x)) (G .stored) ne
       ∙ sym (store-closed (G .now' .sets) (table-rules (G .now' .sets) .0 (G .now-meets) .short))
 
   pub turn-taken : JudgedAs part (verdict part) r → isDone (r .outcome) ≡ true → Going bytes t₀ t notes' (r .outcome) (r .spots) at (at + 32) 0
   turn-taken (isTaken fs v d p) y =
-      going-taken bytes t₀ t notes o spots from at i G h l b256 fs (r .spots) notes' (r .outcome) (ap verdict (sym part-is) ∙ v) (subst (λ (x : List ℕ). Placed x (r .spots) fs) part-is p) none' d
+      going-taken bytes t₀ t notes o spots from at i G h l b256 fs (r .spots) notes' (r .outcome) (ap verdict (sym part-is) ∙ v) (subst (λ (x : List ℕ). SpotsAre x (r .spots) fs) part-is p) none' d
   turn-taken (isRefused q v d z) y = absurd (refused-not-done part q v (done-is q (sym (ap isDone d) ∙ y)))
   turn-taken (isNoBlock v d z) y = absurd (never-none v)
 
   pub turn-refused : JudgedAs part (verdict part) r → isDone (r .outcome) ≡ false → (none'' : IdList) → none'' ≡ emptyList
-      → Going bytes t₀ (record { count = t .count; keys = t .keys; on = t .on; shown = t .shown; draft = replicate 32 none'' }) notes' (r .outcome) (r .spots) at (at + 32) 0
+      → Going bytes t₀ (withDraft t (replicate mostKeys none'')) notes' (r .outcome) (r .spots) at (at + 32) 0
   unfolding isDone
   turn-refused (isTaken fs v d p) y n ne = absurd (true≢false (sym (ap isDone d) ∙ y))
   turn-refused (isRefused q v d z) y n ne =

@@ -11,7 +11,7 @@ use Rattle.rules.specs.declared.Outcome.the-variants.{Done, NotABlock, CheckFai
 use Rattle.rules.specs.declared.Note.{Note}
 use Rattle.rules.specs.declared.Note.the-variants.{Opened, ShownAndOpened, Added, NoOpenList, Full, TooLong, StateOnly, UnknownKey, Dropped}
 use Rattle.rules.specs.Family.{onHeld}
-use Rattle.rules.specs.Collecting.{linkage, Held, actOf, ifThere}
+use Rattle.rules.specs.Collecting.{linkage, Held, actOf, ifThere, mostKeys}
 use Rattle.field.specs.declared.Field.{Field}
 use Rattle.field.specs.declared.FieldStep.the-variants.{Found}
 use Rattle.field.specs.FieldStep.{fieldStepAt, meaning, hasListIn, continues}
@@ -50,7 +50,7 @@ HeldStep body f draft r =
 
 -- a field of a key that is not held opens a list: a start, and room for one key more
 unfoldable pub opensIn : Field → ℕ → Bool
-opensIn f count = hasListIn f && not (continues f) && ltb count 32
+opensIn f count = hasListIn f && not (continues f) && ltb count mostKeys
 
 -- the note of a field that changes nothing
 unfoldable pub unheldNote : Field → Note

@@ -12,7 +12,7 @@ ghost use Rattle.sets.specs.Stored.{openedSets};
 ghost use Rattle.lists.specs.Grown.{withField};
 ghost use Rattle.lists.specs.Stored.{emptyList};
 ghost use Rattle.reading.specs.Steps.{opensIn, unheldNote, noNotes, notedAt, isDone};
-ghost use Rattle.reading.specs.Gathered.{setsOf};
+ghost use Rattle.reading.specs.Gathered.{places, setsOf, Unchanged};
 ghost use Rattle.reading.specs.Runs.{Runs, runAs, refusedTable, recordedAs, unrecorded};
 
 mod rows;
@@ -148,28 +148,10 @@ impl Reply {
     }
 }
 
-// What the sets of a table are beside their lists.
-struct Head {
-    count: usize,
-    keys: [u32; Table::KEYS],
-    on: [bool; Table::KEYS],
-}
-
-fn head_of(sets: Sets) -> Head
-    ensures { λ r. ⌜ r ≡ record { count = sets .count; keys = sets .keys; on = sets .on } ⌝ }
-{
-    let keys = sets.keys;
-    let on = sets.on;
-    Head {
-        count: sets.count,
-        keys,
-        on,
-    }
-}
-
-// The sets that are shown in the rows of `sn` and `sk`, with open lists in those of `dn` and `dk`.
+// The sets that were laid out, as they are now: on or off, shown in the rows of `sn` and `sk`, with open lists in those of `dn` and `dk`.
 fn sets_of<'a>(
-    head: Head,
+    laid: Sets,
+    on: [bool; Table::KEYS],
     sn: &'a [u32],
     sk: &'a [u8],
     shown: Rows,
@@ -177,20 +159,19 @@ fn sets_of<'a>(
     dk: &'a [u8],
     draft: Rows,
 ) -> Sets
-    requires { ⌜ (length (now sn) ≡ 4096) × (length (now sk) ≡ 4096) × (length (now dn) ≡ 4096) × (length (now dk) ≡ 4096) ⌝ }
-    ensures { λ r. ⌜ r ≡ setsOf head (now (sn .entry)) (now (sk .entry)) shown (now (dn .entry)) (now (dk .entry)) draft ⌝ }
+    requires { ⌜ (length (now sn) ≡ places) × (length (now sk) ≡ places) × (length (now dn) ≡ places) × (length (now dk) ≡ places)
+        × Unchanged (laid .shown) (now sn) (now sk) shown × Unchanged (laid .draft) (now dn) (now dk) draft ⌝ }
+    ensures { λ r. ⌜ r ≡ setsOf laid on (now (sn .entry)) (now (sk .entry)) shown (now (dn .entry)) (now (dk .entry)) draft ⌝ }
 {
-    let keys = head.keys;
-    let on = head.on;
-    let set_lists = rows::gather(sn, sk, shown);
-    let open_lists = rows::gather(dn, dk, draft);
-    Sets {
-        count: head.count,
-        keys,
-        on,
-        shown: set_lists,
-        draft: open_lists,
-    }
+    let lists = laid.shown;
+    let set_lists = rows::gather(lists, sn, sk, shown);
+    let lists = laid.draft;
+    let open_lists = rows::gather(lists, dn, dk, draft);
+    let mut sets = laid;
+    sets.on = on;
+    sets.shown = set_lists;
+    sets.draft = open_lists;
+    sets
 }
 
 // Sets with the key of a field that starts a list.
@@ -213,12 +194,12 @@ fn run_blocks(table: Table, bytes: &[u8]) -> Answer
     let mut sk = [0u8; rows::PLACES];
     let mut dn = [0u32; rows::PLACES];
     let mut dk = [0u8; rows::PLACES];
-    let sets = table.sets;
-    let lists = sets.shown;
+    let mut laid = table.sets;
+    let lists = laid.shown;
     let mut shown = rows::scatter(lists, &mut sn, &mut sk);
-    let lists = sets.draft;
+    let lists = laid.draft;
     let mut draft = rows::scatter(lists, &mut dn, &mut dk);
-    let mut head = head_of(sets);
+    let mut on = laid.on;
     let closed = Rows::none();
     let mut reply = Reply::to(Outcome::Done);
     let mut spots = block::no_spots();
@@ -232,9 +213,9 @@ fn run_blocks(table: Table, bytes: &[u8]) -> Answer
             let end = from + spot.end as usize;
             let f = spot.field(&bytes[start..end]);
             let key = f.key();
-            let count = head.count;
-            let p = sets::place_of(&head.keys, count, key);
-            if sets::stands_at(&head.keys, count, p, key) {
+            let count = laid.count;
+            let p = sets::place_of(&laid.keys, count, key);
+            if sets::stands_at(&laid.keys, count, p, key) {
                 let a = p * IdList::MOST;
                 let e = a + IdList::MOST;
                 let held = rows::on_held(
@@ -250,18 +231,20 @@ fn run_blocks(table: Table, bytes: &[u8]) -> Answer
                 let note = held.note;
                 shown.lens[p] = held.shown.len;
                 shown.names[p] = held.shown.named;
+                shown.changed[p] = true;
                 draft.lens[p] = held.draft.len;
                 draft.names[p] = held.draft.named;
-                head.on[p] = f.la == 1;
+                draft.changed[p] = true;
+                on[p] = f.la == 1;
                 reply = reply.noted(i, note);
                 i += 1;
             } else if opens(f, count) {
-                let now = sets_of(head, &sn, &sk, shown, &dn, &dk, draft);
-                let next = opened(now, p, key, &bytes[start..end], f);
-                head = head_of(next);
-                let lists = next.shown;
+                let now = sets_of(laid, on, &sn, &sk, shown, &dn, &dk, draft);
+                laid = opened(now, p, key, &bytes[start..end], f);
+                on = laid.on;
+                let lists = laid.shown;
                 shown = rows::scatter(lists, &mut sn, &mut sk);
-                let lists = next.draft;
+                let lists = laid.draft;
                 draft = rows::scatter(lists, &mut dn, &mut dk);
                 reply = reply.noted(i, Note::Opened);
                 i += 1;
@@ -271,7 +254,7 @@ fn run_blocks(table: Table, bytes: &[u8]) -> Answer
             }
         } else {
             if bytes.len() - at < 32 {
-                let left = sets_of(head, &sn, &sk, shown, &dn, &dk, draft);
+                let left = sets_of(laid, on, &sn, &sk, shown, &dn, &dk, draft);
                 return reply.answer(Table::of(left));
             }
             from = at;

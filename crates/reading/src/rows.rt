@@ -5,16 +5,17 @@
 ghost use mathlib.Core.Path.{_≡_};
 ghost use Prim.Native.Nat.{_<_, _≤_};
 ghost use lib.ListN.{length, take, getD};
+ghost use Rattle.rules.specs.Collecting.{mostIds};
 ghost use Rattle.rules.specs.Outcomes.{overwritten};
 ghost use Rattle.lists.specs.Grown.{withField};
-ghost use Rattle.reading.specs.Gathered.{noRows, rowList, gathered, packed, Laid, appendedAs, RowStep};
+ghost use Rattle.reading.specs.Gathered.{places, noRows, rowList, gathered, packed, Laid, Unchanged, appendedAs, RowStep};
 use field::Field;
 use lists::IdList;
 use rules::Note;
 use table::Table;
 
 // The places of a column: a row of 128 for each key.
-pub(crate) const PLACES: usize = 4096;
+pub(crate) const PLACES: usize = Table::KEYS * IdList::MOST;
 
 // How many identifiers a row holds, and the kinds that it names.
 pub(crate) struct Row {
@@ -22,10 +23,11 @@ pub(crate) struct Row {
     pub(crate) named: u8,
 }
 
-// The same of all 32 rows.
+// The same of all 32 rows, and which may differ from the lists that were laid out in them.
 pub(crate) struct Rows {
     pub(crate) lens: [usize; Table::KEYS],
     pub(crate) names: [u8; Table::KEYS],
+    pub(crate) changed: [bool; Table::KEYS],
 }
 
 impl Rows {
@@ -36,6 +38,7 @@ impl Rows {
         Self {
             lens: [0usize; Table::KEYS],
             names: [0u8; Table::KEYS],
+            changed: [true; Table::KEYS],
         }
     }
 }
@@ -73,7 +76,7 @@ fn copy_row<'a>(
 
 // A row as a list, in its stored form.
 fn list_of<'a>(numbers: &'a [u32], kinds: &'a [u8], len: usize, named: u8) -> IdList
-    requires { ⌜ (length (now numbers) ≡ 128) × (length (now kinds) ≡ 128) ⌝ }
+    requires { ⌜ (length (now numbers) ≡ mostIds) × (length (now kinds) ≡ mostIds) ⌝ }
     ensures { λ r. ⌜ r ≡ rowList (now (numbers .entry)) (now (kinds .entry)) (record { len = len; named = named }) ⌝ }
 {
     let mut ns = [0u32; IdList::MOST];
@@ -93,17 +96,24 @@ fn list_of<'a>(numbers: &'a [u32], kinds: &'a [u8], len: usize, named: u8) -> Id
     }
 }
 
-// All rows as lists, in their stored form.
-pub(crate) fn gather<'a>(numbers: &'a [u32], kinds: &'a [u8], rows: Rows) -> [IdList; Table::KEYS]
-    requires { ⌜ (length (now numbers) ≡ 4096) × (length (now kinds) ≡ 4096) ⌝ }
+// All rows as lists, in their stored form: those that did not change are the lists that were laid out.
+pub(crate) fn gather<'a>(
+    laid: [IdList; Table::KEYS],
+    numbers: &'a [u32],
+    kinds: &'a [u8],
+    rows: Rows,
+) -> [IdList; Table::KEYS]
+    requires { ⌜ (length (now numbers) ≡ places) × (length (now kinds) ≡ places) × Unchanged laid (now numbers) (now kinds) rows ⌝ }
     ensures { λ r. ⌜ r ≡ gathered (now (numbers .entry)) (now (kinds .entry)) rows ⌝ }
 {
-    let mut lists = [IdList::empty(); Table::KEYS];
+    let mut lists = laid;
     let mut p = 0;
     while p < Table::KEYS {
-        let a = p * IdList::MOST;
-        let e = a + IdList::MOST;
-        lists[p] = list_of(&numbers[a..e], &kinds[a..e], rows.lens[p], rows.names[p]);
+        if rows.changed[p] {
+            let a = p * IdList::MOST;
+            let e = a + IdList::MOST;
+            lists[p] = list_of(&numbers[a..e], &kinds[a..e], rows.lens[p], rows.names[p]);
+        }
         p += 1;
     }
     lists
@@ -111,7 +121,7 @@ pub(crate) fn gather<'a>(numbers: &'a [u32], kinds: &'a [u8], rows: Rows) -> [Id
 
 // Lays a list out in a row.
 fn lay(list: IdList, numbers: &mut [u32], kinds: &mut [u8]) -> Row
-    requires { ⌜ (length (now numbers) ≡ 128) × (length (now kinds) ≡ 128) ⌝ }
+    requires { ⌜ (length (now numbers) ≡ mostIds) × (length (now kinds) ≡ mostIds) ⌝ }
     ensures { λ r. ⌜ rowList (now (numbers .exit)) (now (kinds .exit)) r ≡ packed list ⌝ }
 {
     let len = lists::least(list.len, IdList::MOST);
@@ -124,7 +134,7 @@ fn lay(list: IdList, numbers: &mut [u32], kinds: &mut [u8]) -> Row
 
 // Lays all lists out in rows.
 pub(crate) fn scatter(lists: [IdList; Table::KEYS], numbers: &mut [u32], kinds: &mut [u8]) -> Rows
-    requires { ⌜ (length (now numbers) ≡ 4096) × (length (now kinds) ≡ 4096) ⌝ }
+    requires { ⌜ (length (now numbers) ≡ places) × (length (now kinds) ≡ places) ⌝ }
     ensures { λ r. ⌜ Laid lists r (now (numbers .exit)) (now (kinds .exit)) ⌝ }
 {
     let mut rows = Rows::none();
@@ -136,6 +146,7 @@ pub(crate) fn scatter(lists: [IdList; Table::KEYS], numbers: &mut [u32], kinds: 
         let row = lay(list, &mut numbers[a..e], &mut kinds[a..e]);
         rows.lens[p] = row.len;
         rows.names[p] = row.named;
+        rows.changed[p] = false;
         p += 1;
     }
     rows
@@ -150,7 +161,7 @@ struct Appended {
 // Adds the identifiers of a field at a row's end, in order, each once, and the kinds that it names. A row that would
 // grow beyond 128 is left as no list.
 fn append(numbers: &mut [u32], kinds: &mut [u8], row: Row, body: &[u8], f: Field) -> Appended
-    requires { ⌜ (length (now numbers) ≡ 128) × (length (now kinds) ≡ 128) × (row .len ≤ 128) ⌝ }
+    requires { ⌜ (length (now numbers) ≡ mostIds) × (length (now kinds) ≡ mostIds) × (row .len ≤ mostIds) ⌝ }
     ensures { λ r. ⌜ appendedAs r (now (numbers .exit)) (now (kinds .exit))
         ≡ withField (rowList (now (numbers .entry)) (now (kinds .entry)) row) (now (body .entry)) f ⌝ }
 {
@@ -206,7 +217,7 @@ pub(crate) fn on_held(
     body: &[u8],
     f: Field,
 ) -> Stepped
-    requires { ⌜ (length (now sn) ≡ 128) × (length (now sk) ≡ 128) × (length (now dn) ≡ 128) × (length (now dk) ≡ 128) × (draft .len ≤ 128) ⌝ }
+    requires { ⌜ (length (now sn) ≡ mostIds) × (length (now sk) ≡ mostIds) × (length (now dn) ≡ mostIds) × (length (now dk) ≡ mostIds) × (draft .len ≤ mostIds) ⌝ }
     ensures { λ r. ⌜ RowStep (now (body .entry)) f shown draft r
         (now (sn .entry)) (now (sk .entry)) (now (dn .entry)) (now (dk .entry))
         (now (sn .exit)) (now (sk .exit)) (now (dn .exit)) (now (dk .exit)) ⌝ }

@@ -92,10 +92,10 @@ fn spoil_entries(sets: Sets, way: usize) -> Sets {
 // Whether the list has an RDS code or a DRM or AMSS identifier.
 fn has_other(list: IdList) -> bool {
     let len = list.len;
-    if lists::has_kind(1, &list.numbers, &list.kinds, len) {
+    if lists::has_kind(rules::RDS, &list.numbers, &list.kinds, len) {
         return true;
     }
-    lists::has_kind(3, &list.numbers, &list.kinds, len)
+    lists::has_kind(rules::DRM, &list.numbers, &list.kinds, len)
 }
 
 // Whether a key's set, or open list in way 16, has what one of the ways 7 to 16 needs.

@@ -1,26 +1,15 @@
 -- Laws of lists stored in arrays: the length; the values, and what stands past them; one value more at the end, or among the
--- others; which list is stored.
-use Prim.Native.Nat.{ℕ, suc, _+_, _-_, _<_, _≤_}
+-- others; which list is stored; which records are stored in columns.
+use Prim.Native.Nat.{ℕ, zero, suc, _+_, _-_, _<_, _≤_, suc-le-suc}
+use native.Mathlib.Nat.{le-of-suc-le-suc, not-suc-le-zero}
 use native.Mathlib.Omega.{arith}
-use mathlib.Core.Path.{_≡_, refl, sym, ap, ap₂, _∙_}
+use mathlib.Core.Path.{_≡_, refl, sym, ap, ap₂, _∙_, subst}
 use mathlib.Core.List.{List, [], _∷_, _++_, map, append-assoc, map-append}
-use lib.ListN.{length, getD, set, take, drop, replicate, length-append, length-map, length-replicate, length-set, take-append-drop, replicate-append-replicate, List·getD-append}
-use lib.Seq.{set-at, set-append-left, take-at, drop-at, length-take-le}
+use lib.ListN.{length, getD, set, take, drop, replicate, length-append, length-drop, length-map, length-replicate, length-set, take-append-drop, replicate-append-replicate, List·getD-append, getD-replicate}
+use lib.Seq.{set-at, set-append-left, take-at, drop-at, length-take-le, ext-getD, getD-append-add, getD-drop}
 use Rattle.rules.specs.Arrays.{padded}
 
 module _ {ℓ} {A : Type ℓ} where
-  pub padded-nil : (n : ℕ) (d : A) → padded n d [] ≡ replicate n d
-  unfolding padded
-  padded-nil n d =
-      let e : n - 0 ≡ n = omega arith in
-      ap (λ (k : ℕ). replicate k d) e
-
-  pub padded-cons : (n : ℕ) (d x : A) (xs : List A) → padded (suc n) d (x ∷ xs) ≡ x ∷ padded n d xs
-  unfolding padded
-  padded-cons n d x xs =
-      let e : suc n - suc (length xs) ≡ n - length xs = omega arith in
-      ap (λ (k : ℕ). x ∷ (xs ++ replicate k d)) e
-
   pub length-padded : (n : ℕ) (d : A) (xs : List A) → length xs ≤ n → length (padded n d xs) ≡ n
   unfolding padded
   length-padded n d xs h = length-append xs (replicate (n - length xs) d) ∙ rw length-replicate (omega arith)
@@ -37,6 +26,15 @@ module _ {ℓ} {A : Type ℓ} where
   pub drop-padded : (n : ℕ) (d : A) (xs : List A) (m : ℕ) → length xs ≡ m → drop m (padded n d xs) ≡ replicate (n - m) d
   unfolding padded
   drop-padded n d xs m e = drop-at xs (replicate (n - length xs) d) m e ∙ ap (λ (k : ℕ). replicate (n - k) d) e
+
+  pub getD-past : (n : ℕ) (d e : A) (xs : List A) (i : ℕ) → length xs ≤ i → i < n → getD (padded n d xs) i e ≡ d
+  unfolding padded
+  getD-past n d e xs i l h =
+      let j = i - length xs in
+      let k : length xs + j ≡ i = omega arith in
+      ap (λ (m : ℕ). getD (xs ++ replicate (n - length xs) d) m e) (sym k)
+      ∙ getD-append-add xs (replicate (n - length xs) d) j e
+      ∙ getD-replicate (n - length xs) j d e (omega arith)
 
   -- a value stored after the others
   pub set-padded : (n i : ℕ) (d v : A) (xs : List A) → length xs ≡ i → i < n → set (padded n d xs) i v ≡ padded n d (xs ++ v ∷ [])
@@ -83,6 +81,16 @@ module _ {ℓ} {A : Type ℓ} where
       sym (take-append-drop len xs)
       ∙ ap (λ (r : List A). take len xs ++ r) (e ∙ ap (λ (k : ℕ). replicate (n - k) d) (sym (length-take-le len xs (omega arith))))
 
+  -- it has one value past them where each place from len on has that value
+  pub same-from : (n len : ℕ) (d e : A) (xs : List A) → length xs ≡ n → len ≤ n → ((i : ℕ) → i < n → len ≤ i → getD xs i e ≡ d)
+      → drop len xs ≡ replicate (n - len) d
+  same-from n len d e xs l h s =
+      let rest = length-drop len xs ∙ ap (λ (m : ℕ). m - len) l in
+      ext-getD e (drop len xs) (replicate (n - len) d) (rest ∙ sym (length-replicate (n - len) d))
+      (λ i g.
+      let g' : i < n - len = subst (λ (m : ℕ). i < m) rest g in
+      getD-drop len xs i e ∙ s (len + i) (omega arith) (omega arith) ∙ sym (getD-replicate (n - len) i d e g'))
+
   -- and as many values have one stored form
   pub padded-same : (n : ℕ) (d : A) (xs ys : List A) → length xs ≡ length ys → padded n d xs ≡ padded n d ys → xs ≡ ys
   padded-same n d xs ys l e =
@@ -95,3 +103,22 @@ set-column {A} {B} f n i d xs x e w l h =
     ap₂ (λ (zs : List B) (u : B). set zs i u) e w
     ∙ set-padded n i d (f x) (map f xs) (length-map xs f ∙ l) h
     ∙ ap (padded n d) (sym (map-append f xs (x ∷ [])))
+
+-- the records g 0, g 1, .. below n
+unfoldable pub tabulate {ℓ} : {A : Type ℓ} → ℕ → (ℕ → A) → List A
+tabulate zero g = []
+tabulate (suc n) g = g zero ∷ tabulate n (λ k. g (suc k))
+
+pub length-tabulate {ℓ} : {A : Type ℓ} (n : ℕ) (g : ℕ → A) → length (tabulate n g) ≡ n
+unfolding tabulate
+length-tabulate zero g = refl
+length-tabulate (suc n) g = ap suc (length-tabulate n (λ k. g (suc k)))
+
+-- a column that has their values has them in their order
+pub map-tabulate : {A B : Type 0} (f : A → B) (n : ℕ) (g : ℕ → A) (e : B) (xs : List B) → n ≤ length xs
+    → ((k : ℕ) → k < n → f (g k) ≡ getD xs k e) → map f (tabulate n g) ≡ take n xs
+unfolding tabulate
+map-tabulate f zero g e xs l h = refl
+map-tabulate f (suc n) g e [] l h = absurd (not-suc-le-zero l)
+map-tabulate f (suc n) g e (x ∷ xs) l h =
+    ap₂ _∷_ (h zero (omega arith)) (map-tabulate f n (λ k. g (suc k)) e xs (le-of-suc-le-suc l) (λ k b. h (suc k) (suc-le-suc b)))

@@ -14,7 +14,7 @@ use borrow.Author.Tests.{ltb-true, leb-true}
 use Rattle.rules.specs.declared.Note.{Note}
 use Rattle.rules.specs.Family.{Family, Listed, Act, start, continuation, noList, drops, Said, Entry, member, added, addedAll, opening, extended, entryWith, started, continued, onHeld, fresh, onUnheld, kept, effect, find, replace, insert, store, step, steps, closed, dropOpen, forget}
 use Rattle.rules.specs.Receptions.{heldKeys}
-use Rattle.rules.proofs.Basics.{cases-bool, true-false, none-some, or-false-left, or-false-right, or-neither, cond-both, cond-cases, cond-twice, cond-order, Every, every-imp, every-map, every-append, Within, within-if, within-imp}
+use Rattle.rules.proofs.Basics.{cases-bool, true-false, never-true, none-some, or-false-left, or-false-right, or-neither, cond-both, cond-cases, cond-twice, cond-order, Every, every-imp, every-map, every-append, Within, within-if, within-imp}
 
 -- the tests of a family decide equality of keys and of items, and its order of keys is a strict total one
 pub record Lawful (F : Family) : Type 0 where
@@ -104,6 +104,13 @@ module _ (F : Family) (L : Lawful F) where
       cases-bool (sameKey k l)
       (λ e. true-false (subst (λ (x : Key). keyBefore k x ≡ true) (sym (L .same-is k l e)) h) (L .before-self k))
       (λ e. e)
+
+  -- a key that comes after another is not the same, and not before it
+  pub after-differ : (k l : Key) → keyBefore l k ≡ true → sameKey k l ≡ false
+  after-differ k l h = differ-sym l k (before-differ l k h)
+
+  pub after-not-before : (k l : Key) → keyBefore l k ≡ true → keyBefore k l ≡ false
+  after-not-before k l h = never-true (keyBefore k l) (λ e. true-false (L .before-trans k l k e h) (L .before-self k))
 
   -- what is found under a key has that key
   pub find-key : (k : Key) (t : List (Entry F)) (e : Entry F) → find F k t ≡ some e → e .key ≡ k
@@ -367,17 +374,14 @@ module _ (F : Family) where
   Ascends (k ∷ ks) = After k ks × Ascends ks
 
   pub keys-drop-open : (t : List (Entry F)) → heldKeys F (dropOpen F t) ≡ heldKeys F t
-  unfolding heldKeys dropOpen closed entryWith
+  unfolding dropOpen closed entryWith
   keys-drop-open [] = refl
   keys-drop-open (e ∷ es) = ap (_∷_ (e .key)) (keys-drop-open es)
 
   pub keys-every : (P : F .Key → Type 0) (t : List (Entry F)) → Every (λ e. P (e .key)) t → Every P (heldKeys F t)
-  unfolding heldKeys
-  keys-every P [] h = tt
-  keys-every P (e ∷ es) h = (h .0, keys-every P es (h .1))
+  keys-every P t h = every-map P (λ e. e .key) t h
 
   pub every-keys : (P : F .Key → Type 0) (t : List (Entry F)) → Every P (heldKeys F t) → Every (λ e. P (e .key)) t
-  unfolding heldKeys
   every-keys P [] h = tt
   every-keys P (e ∷ es) h = (h .0, every-keys P es (h .1))
 
@@ -385,7 +389,7 @@ module _ (F : Family) (L : Lawful F) where
   open Family F using (Key, sameKey, keyBefore, room)
 
   pub keys-replace : (e : Entry F) (t : List (Entry F)) → heldKeys F (replace F e t) ≡ heldKeys F t
-  unfolding heldKeys replace
+  unfolding replace
   keys-replace e [] = refl
   keys-replace e (x ∷ xs) =
       cond-cases (λ (u : List (Entry F)). heldKeys F u ≡ x .key ∷ heldKeys F xs) (sameKey (e .key) (x .key)) (e ∷ xs) (x ∷ replace F e xs)
@@ -394,7 +398,6 @@ module _ (F : Family) (L : Lawful F) where
 
   -- nothing is held of a key that comes before all
   pub after-none : (k : Key) (t : List (Entry F)) → After F k (heldKeys F t) → find F k t ≡ none
-  unfolding heldKeys
   after-none k [] h = unfold find in refl
   after-none k (e ∷ es) h = find-past F L k e es (before-differ F L k (e .key) (h .0)) ∙ after-none k es (h .1)
 
@@ -414,7 +417,7 @@ module _ (F : Family) (L : Lawful F) where
 
   pub ascends-insert : (e : Entry F) (t : List (Entry F)) → find F (e .key) t ≡ none → Ascends F (heldKeys F t)
       → Ascends F (heldKeys F (insert F e t))
-  unfolding heldKeys insert
+  unfolding insert
   ascends-insert e [] n h = (tt, tt)
   ascends-insert e (x ∷ xs) n h =
       let p = find-none-past F L (e .key) x xs n in
@@ -445,7 +448,7 @@ module _ (F : Family) (L : Lawful F) where
   ascends-drop-open t h = rw (keys-drop-open F t) h
 
   pub ascends-forget : (k : Key) (t : List (Entry F)) → Ascends F (heldKeys F t) → Ascends F (heldKeys F (forget F k t))
-  unfolding heldKeys forget
+  unfolding forget
   ascends-forget k [] h = tt
   ascends-forget k (e ∷ es) h =
       cond-both (λ (u : List (Entry F)). Ascends F (heldKeys F u)) (sameKey k (e .key)) es (e ∷ forget F k es)
@@ -462,7 +465,7 @@ module _ (F : Family) (L : Lawful F) where
       (λ s. rw (find-forget-other k l es d))
 
   pub find-forget-own : (k : Key) (t : List (Entry F)) → Ascends F (heldKeys F t) → find F k (forget F k t) ≡ none
-  unfolding heldKeys forget
+  unfolding forget
   find-forget-own k [] h = unfold find in refl
   find-forget-own k (e ∷ es) h =
       cond-cases (λ (u : List (Entry F)). find F k u ≡ none) (sameKey k (e .key)) es (e ∷ forget F k es)
@@ -475,6 +478,12 @@ module _ (F : Family) (L : Lawful F) where
       cases-bool (sameKey k l)
       (λ s. rw s (rw (L .same-is k l s) (find-forget-own l t h)))
       (λ s. rw s (find-forget-other k l t s))
+
+  -- a key that is not held is forgotten already
+  pub forget-none : (k : Key) (t : List (Entry F)) → find F k t ≡ none → forget F k t ≡ t
+  unfolding forget
+  forget-none k [] h = refl
+  forget-none k (e ∷ es) h = let p = find-none-past F L k e es h in rw (p .0) (ap (_∷_ e) (forget-none k es (p .1)))
 
 -- ---- items: adding
 

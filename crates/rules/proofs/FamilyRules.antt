@@ -147,7 +147,6 @@ module _ (F : Family) (L : Lawful F) where
 
   -- ascending keys, all above one
   pub up-after : (k : Key) (t : List (Entry F)) → (goesUp F (keyBefore k) t ≡ true) ↔ (After F k (heldKeys F t) × Ascends F (heldKeys F t))
-  unfolding heldKeys
   up-after k [] = (λ h. (tt, tt), λ h. refl)
   up-after k (e ∷ es) = (
     λ h.
@@ -159,13 +158,11 @@ module _ (F : Family) (L : Lawful F) where
 
   -- ascending keys, of which the first passes a test
   pub up-ascends : (asked : Key → Bool) (t : List (Entry F)) → goesUp F asked t ≡ true → Ascends F (heldKeys F t)
-  unfolding heldKeys
   up-ascends asked [] h = tt
   up-ascends asked (e ∷ es) h = up-after (e .key) es .0 (and-right (asked (e .key)) (goesUp F (keyBefore (e .key)) es) h)
 
   pub ascends-up : (asked : Key → Bool) (t : List (Entry F)) → Every (λ e. asked (e .key) ≡ true) t → Ascends F (heldKeys F t)
       → goesUp F asked t ≡ true
-  unfolding heldKeys
   ascends-up asked [] p h = refl
   ascends-up asked (e ∷ es) p h = and-both (asked (e .key)) (goesUp F (keyBefore (e .key)) es) (p .0) (up-after (e .key) es .1 h)
 

@@ -12,10 +12,10 @@ use lib.Dec.{ltb, eqb}
 use borrow.Author.Tests.{ltb-true, eqb-true, lt-ltb, eq-eqb, ne-eqb}
 use Rattle.rules.specs.declared.Outcome.{Outcome}
 use Rattle.rules.specs.declared.Outcome.the-variants.{Done, NotABlock}
-use Rattle.rules.specs.Block.{Walk, whole, broken, Fig, figs, checkHolds}
+use Rattle.rules.specs.Block.{Placed, Walk, whole, broken, Fig, figs, checkHolds}
 use Rattle.rules.specs.Field.{Field, keyOf, Pair, pair, pairsOf, startPairs, firstKind, namedBy, hasList, isContinuation, width, rds, drm, wrongValue, emptyStart}
 use Rattle.rules.specs.Family.{start, continuation, noList, addedAll, opening, extended, steps, dropOpen, forget}
-use Rattle.rules.specs.Collecting.{joinNames, linkage, IdSet, Entries, Content, linkageRules, withSets, brings, actOf, said, keyWidth, notEmpty, mayBegin, beginsRight, kindNamed, namesMeet, meets}
+use Rattle.rules.specs.Collecting.{joinNames, linkage, IdSet, Entries, Content, linkageRules, withSets, brings, actOf, said, keyWidth, notEmpty, mayBegin, beginsRight, kindNamed, namesMeet, meets, mostIds}
 use Rattle.rules.specs.Outcomes.{numberOf, Verdict, taken, refused, noBlock, judgeFields, judgeFigs, verdict, Answer, answerTo, readBlock, readBlocks, readRecording, leftOver, forgotten, allFields, some?}
 use Rattle.rules.proofs.Basics.{cases-bool, true-false, cond-cases, cond-both, Every, every-imp, every-map, every-from, every-take, every-drop}
 use Rattle.rules.proofs.FamilyLaws.{Brings, different-addedAll, addedAll-first, opening-first, length-addedAll, every-addedAll, steps-notes}
@@ -186,7 +186,7 @@ start-meets f g h c =
     }
 
 -- a list to which a continuation is added
-pub continued-meets : (f : Field) (d : IdSet) → GoodField f → SetMeets (keyOf f) d → length (extended linkage d (brings f) .items) ≤ 128
+pub continued-meets : (f : Field) (d : IdSet) → GoodField f → SetMeets (keyOf f) d → length (extended linkage d (brings f) .items) ≤ mostIds
     → SetMeets (keyOf f) (extended linkage d (brings f))
 unfolding extended brings
 continued-meets f d g m l =
@@ -294,12 +294,12 @@ pub data Refused (fib : List ℕ) : ℕ → Type 0 where
   -- 3: the FIG walk breaks
   brokenFigs : checkHolds fib ≡ true → (p : ℕ) → figs fib ≡ broken p → Refused fib 3
   -- 4: a field does not fit
-  brokenFields : checkHolds fib ≡ true → (gs : List Fig) → figs fib ≡ whole gs → (p : ℕ) → allFields gs ≡ broken p → Refused fib 4
+  brokenFields : checkHolds fib ≡ true → (gs : List (Placed Fig)) → figs fib ≡ whole gs → (p : ℕ) → allFields gs ≡ broken p → Refused fib 4
   -- 5: some field has a wrong value
-  badValue : checkHolds fib ≡ true → (gs : List Fig) → figs fib ≡ whole gs → (fs : List Field) → allFields gs ≡ whole fs
+  badValue : checkHolds fib ≡ true → (gs : List (Placed Fig)) → figs fib ≡ whole gs → (fs : List (Placed Field)) → allFields gs ≡ whole fs
       → some? wrongValue fs ≡ true → Refused fib 5
   -- 6: some start is empty
-  noFirst : checkHolds fib ≡ true → (gs : List Fig) → figs fib ≡ whole gs → (fs : List Field) → allFields gs ≡ whole fs
+  noFirst : checkHolds fib ≡ true → (gs : List (Placed Fig)) → figs fib ≡ whole gs → (fs : List (Placed Field)) → allFields gs ≡ whole fs
       → some? wrongValue fs ≡ false → some? emptyStart fs ≡ true → Refused fib 6
 
 -- what a verdict on a block of full length says: it is no other than these
@@ -309,7 +309,7 @@ Refusal fib (refused o) = Refused fib (numberOf o)
 Refusal fib noBlock = ⊥
 
 module _ (fib : List ℕ) (h : checkHolds fib ≡ true) where
-  fields-refusal : (gs : List Fig) → figs fib ≡ whole gs → (w : Walk Field) → allFields gs ≡ w → Refusal fib (judgeFields w)
+  fields-refusal : (gs : List (Placed Fig)) → figs fib ≡ whole gs → (w : Walk (Placed Field)) → allFields gs ≡ w → Refusal fib (judgeFields w)
   unfolding judgeFields numberOf
   fields-refusal gs g (broken p) e = brokenFields h gs g p e
   fields-refusal gs g (whole fs) e =
@@ -317,7 +317,7 @@ module _ (fib : List ℕ) (h : checkHolds fib ≡ true) where
       (λ v. rw v (badValue h gs g fs e v))
       (λ v. rw v (cases-bool (some? emptyStart fs) (λ s. rw s (noFirst h gs g fs e v s)) (λ s. rw s tt)))
 
-  figs-refusal : (w : Walk Fig) → figs fib ≡ w → Refusal fib (judgeFigs w)
+  figs-refusal : (w : Walk (Placed Fig)) → figs fib ≡ w → Refusal fib (judgeFigs w)
   unfolding judgeFigs numberOf
   figs-refusal (broken p) e = brokenFigs h p e
   figs-refusal (whole gs) e = fields-refusal gs e (allFields gs) refl

@@ -344,7 +344,7 @@ module _ (F : Family) (L : Lawful F) where
   starts-all t os = every-right _ (heldKeys F t) (startedRun F os) (among-self F L (heldKeys F t ++ startedRun F os))
 
   -- what is held of a key after a run is worked out from its own fields alone, where the distinct keys held or started are no
-  -- more than the table has room for
+  -- more than the table has room for: waits for R-11 (document 02)
   pub find-run : (k : Key) (t : List (Entry F)) (os : List (Op F)) → Ascends F (heldKeys F t) → keysRun F t os ≤ room
       → find F k (run F t os) ≡ onKeyRun F k (find F k t) os
   find-run k t os a n =

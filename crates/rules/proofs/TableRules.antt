@@ -13,8 +13,8 @@ use lib.Dec.{leb, ltb, eqb}
 use borrow.Author.Tests.{ltb-true, ltb-false, leb-true, eqb-true, eqb-false, lt-ltb, le-leb, eq-eqb, ne-eqb}
 use Rattle.rules.specs.Field.{Pair, width, dab, rds, drm}
 use Rattle.rules.specs.Family.{member, heldMeets}
-use Rattle.rules.specs.Collecting.{samePair, joinNames, linkage, IdSet, Held, Entries, linkageRules, keyWidth, allDiffer, notEmpty, mayBegin, beginsRight, kindNamed, pairsMeet, namesMeet, setMeets, ifThere, entryMeets, ascends, entriesMeet, setsMeet, showing, shownSets}
-use Rattle.rules.proofs.Basics.{cases-bool, cases-option, and-left, and-right, and-both, and-three, and-four, and-six, or-cases, true-false, not-true, true-not, cond-both, eqb-self, ltb-self, ltb-trans, ltb-or, Every}
+use Rattle.rules.specs.Collecting.{samePair, joinNames, linkage, IdSet, Held, Entries, isKey, linkageRules, keyWidth, allDiffer, notEmpty, mayBegin, beginsRight, kindNamed, pairsMeet, namesMeet, setMeets, ifThere, entryMeets, ascends, entriesMeet, setsMeet, showing, shownSets, mostKeys, mostIds}
+use Rattle.rules.proofs.Basics.{cases-bool, cases-option, and-left, and-right, and-both, and-three, and-six, or-cases, true-false, not-true, true-not, cond-both, eqb-self, ltb-self, ltb-trans, ltb-or, Every}
 use Rattle.rules.proofs.FamilyLaws.{Lawful, Different}
 use Rattle.rules.proofs.FamilyRules.{items-differ, items-before, Means, HeldMeets, TableMeets, table-means}
 
@@ -179,7 +179,7 @@ dab-begins k = refl
 -- ---- the rule of a set
 
 pub record SetRules (k : ℕ) (l : IdSet) : Type 0 where
-  pub short : length (l .items) ≤ 128
+  pub short : length (l .items) ≤ mostIds
   pub some : notEmpty (l .items) ≡ true
   pub first : beginsRight k (l .items) ≡ true
   pub differ : allDiffer (l .items) ≡ true
@@ -189,15 +189,15 @@ pub record SetRules (k : ℕ) (l : IdSet) : Type 0 where
 pub set-rules : (k : ℕ) (l : IdSet) → (setMeets k l ≡ true) ↔ SetRules k l
 unfolding setMeets
 set-rules k l =
-    let a = and-six (leb (length (l .items)) 128) (notEmpty (l .items)) (beginsRight k (l .items)) (allDiffer (l .items))
+    let a = and-six (leb (length (l .items)) mostIds) (notEmpty (l .items)) (beginsRight k (l .items)) (allDiffer (l .items))
     (pairsMeet (keyWidth k) (l .named) (l .items)) (namesMeet k (l .named)) in (
-      λ h. let t = a .0 h in record { short = leb-true (length (l .items)) 128 (t .0); some = t .1; first = t .2; differ = t .3; pairs = t .4; names = t .5 },
-      λ r. a .1 (le-leb (length (l .items)) 128 (r .short), r .some, r .first, r .differ, r .pairs, r .names),
+      λ h. let t = a .0 h in record { short = leb-true (length (l .items)) mostIds (t .0); some = t .1; first = t .2; differ = t .3; pairs = t .4; names = t .5 },
+      λ r. a .1 (le-leb (length (l .items)) mostIds (r .short), r .some, r .first, r .differ, r .pairs, r .names),
     )
 
 -- what it means
 pub record SetMeets (k : ℕ) (l : IdSet) : Type 0 where
-  pub short : length (l .items) ≤ 128
+  pub short : length (l .items) ≤ mostIds
   pub some : notEmpty (l .items) ≡ true
   pub first : beginsRight k (l .items) ≡ true
   pub differ : Different linkage (l .items)
@@ -229,30 +229,25 @@ set-meets k l = (
 -- ---- the rule of an entry
 
 pub record EntryRules (e : Held) : Type 0 where
-  pub below : e .key < 65536
-  pub numbered : eqb (e .key % 4096) 0 ≡ false
+  pub key : isKey (e .key) ≡ true
   pub shown : ifThere (e .key) (e .shown) ≡ true
   pub draft : ifThere (e .key) (e .draft) ≡ true
 
 pub entry-rules : (e : Held) → (entryMeets e ≡ true) ↔ EntryRules e
 unfolding heldMeets ifThere
 entry-rules e =
-    let a = and-four (ltb (e .key) 65536) (not (eqb (e .key % 4096) 0)) (ifThere (e .key) (e .shown)) (ifThere (e .key) (e .draft)) in (
-      λ h. let t = a .0 h in
-          record {
-            below = ltb-true (e .key) 65536 (t .0);
-            numbered = not-true (eqb (e .key % 4096) 0) (t .1);
-            shown = t .2;
-            draft = t .3;
-          },
-      λ r. a .1 (lt-ltb (e .key) 65536 (r .below), true-not (eqb (e .key % 4096) 0) (r .numbered), r .shown, r .draft),
+    let k = isKey (e .key) in
+    let s = ifThere (e .key) (e .shown) in
+    let d = ifThere (e .key) (e .draft) in (
+      λ h. let ks = and-left (k && s) d h in record { key = and-left k s ks; shown = and-right k s ks; draft = and-right (k && s) d h },
+      λ r. and-both (k && s) d (and-both k s (r .key) (r .shown)) (r .draft),
     )
 
--- a key below 65,536 with LSN not 0
+-- what it is to be a key
 abbrev pub KeyMeets : ℕ → Type 0
 KeyMeets k = (k < 65536) × (k % 4096 ≡ 0 → ⊥)
 
-pub key-meets : (k : ℕ) → (linkageRules .keyMeets k ≡ true) ↔ KeyMeets k
+pub key-meets : (k : ℕ) → (isKey k ≡ true) ↔ KeyMeets k
 key-meets k =
     let a = ltb k 65536 in
     let b = eqb (k % 4096) 0 in (
@@ -284,16 +279,16 @@ EntryMeets e = HeldMeets linkage linkageRules meaning e
 -- ---- the rule of a table
 
 pub record TableRules (t : Entries) : Type 0 where
-  pub short : length t ≤ 32
+  pub short : length t ≤ mostKeys
   pub ascend : ascends 0 t ≡ true
   pub entries : entriesMeet t ≡ true
 
 pub table-rules : (t : Entries) → (setsMeet t ≡ true) ↔ TableRules t
 unfolding setsMeet ascends entriesMeet
 table-rules t =
-    let a = and-three (leb (length t) 32) (ascends 0 t) (entriesMeet t) in (
-      λ h. let r = a .0 h in record { short = leb-true (length t) 32 (r .0); ascend = r .1; entries = r .2 },
-      λ r. a .1 (le-leb (length t) 32 (r .short), r .ascend, r .entries),
+    let a = and-three (leb (length t) mostKeys) (ascends 0 t) (entriesMeet t) in (
+      λ h. let r = a .0 h in record { short = leb-true (length t) mostKeys (r .0); ascend = r .1; entries = r .2 },
+      λ r. a .1 (le-leb (length t) mostKeys (r .short), r .ascend, r .entries),
     )
 
 -- what it means

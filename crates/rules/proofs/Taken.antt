@@ -3,18 +3,18 @@
 -- a field of a taken block is besides.
 use Prim.Native.Nat.{ℕ, zero, suc, _+_, _*_, _/_, _%_, _^_, _≤_, _<_}
 use native.Mathlib.Omega.{arith}
-use native.Mathlib.Nat.{pow-succ', le-mul-of-pos-right, mul-assoc, pow-le-pow-right}
+use native.Mathlib.Nat.{pow-succ', zero-add, le-mul-of-pos-right, mul-assoc, pow-le-pow-right}
 use mathlib.Core.Path.{_≡_, refl, sym, _∙_, ap, subst}
 use mathlib.Core.Bool.{Bool, true, false, not, _&&_}
-use mathlib.Core.List.{List, [], _∷_, _++_}
-use lib.ListN.{length, getD, take, drop, length-append, length-take, length-drop}
+use mathlib.Core.List.{List, [], _∷_, _++_, map}
+use lib.ListN.{length, getD, take, drop, length-append, length-take, length-drop, length-map}
 use lib.Dec.{leb, ltb, eqb}
 use borrow.Author.Tests.{ltb-true, ltb-false, leb-false, eqb-true, eqb-false, eq-eqb, not-false}
 use Rattle.rules.specs.declared.Outcome.{Outcome}
-use Rattle.rules.specs.Block.{Step, item, end, wrong, Walk, whole, broken, after, walk, Fig, figAt, figs, checkHolds}
+use Rattle.rules.specs.Block.{Step, item, end, wrong, Placed, whatOf, Walk, whole, broken, after, walk, Fig, figAt, figs, checkHolds}
 use Rattle.rules.specs.Field.{Field, isLinking, width, bigEndian, identifiers, shortField, listField, listBytes, fieldAt, fieldsOf, hasList, isContinuation, wrongValue, emptyStart}
 use Rattle.rules.specs.Outcomes.{Verdict, taken, refused, noBlock, joined, allFields, some?, judgeFields, judgeFigs, verdict}
-use Rattle.rules.proofs.Basics.{cases-bool, or-false-left, or-false-right, or-five, cond-cases, cond-both, Every, every-both, every-append, every-take, every-drop, every-at}
+use Rattle.rules.proofs.Basics.{cases-bool, or-false-left, or-false-right, or-five, cond-cases, cond-both, Every, every-imp, every-both, every-append, every-map, every-take, every-drop, every-at}
 
 -- ---- walks
 
@@ -47,41 +47,51 @@ module _ {A : Type 0} where
   pub whole-is : (xs ys : List A) → _≡_ {A = Walk A} (whole xs) (whole ys) → xs ≡ ys
   whole-is xs ys h = cc
 
-  -- a step of a walk, by what stands at the place
-  pub walk-item : (at : ℕ → Step A) (n p : ℕ) (a : A) (q : ℕ) → at p ≡ item a q → walk at (suc n) p ≡ after a (walk at n q)
+-- a step of a walk, by what stands at the place; places are counted from the block's byte from
+module _ {A : Type 0} (from : ℕ) (at : ℕ → Step A) where
+  pub walk-item : (n p : ℕ) (a : A) (q : ℕ) → at p ≡ item a q
+      → walk from at (suc n) p ≡ after (record { place = from + p; what = a }) (walk from at n q)
   unfolding walk
-  walk-item at n p a q e = rw (e, walk)
+  walk-item n p a q e = rw (e, walk)
 
-  pub walk-end : (at : ℕ → Step A) (n p : ℕ) → at p ≡ end → walk at (suc n) p ≡ whole []
+  pub walk-end : (n p : ℕ) → at p ≡ end → walk from at (suc n) p ≡ whole []
   unfolding walk
-  walk-end at n p e = rw (e, walk)
+  walk-end n p e = rw (e, walk)
 
-  pub walk-wrong : (at : ℕ → Step A) (n p : ℕ) → at p ≡ wrong → walk at (suc n) p ≡ broken p
+  pub walk-wrong : (n p : ℕ) → at p ≡ wrong → walk from at (suc n) p ≡ broken (from + p)
   unfolding walk
-  walk-wrong at n p e = rw (e, walk)
+  walk-wrong n p e = rw (e, walk)
 
-  -- these are the items from a place on, up to the end
-  abbrev pub Goes : (ℕ → Step A) → ℕ → List A → Type 0
-  Goes at p [] = at p ≡ end
-  Goes at p (a ∷ xs) = (q : ℕ) × (at p ≡ item a q) × Goes at q xs
+  -- these are the items from a place on, up to the end, each at its place
+  abbrev pub Goes : ℕ → List (Placed A) → Type 0
+  Goes p [] = at p ≡ end
+  Goes p (x ∷ xs) = (q : ℕ) × (at p ≡ item (x .what) q) × (x .place ≡ from + p) × Goes q xs
 
   -- a walk that finds them all is such
-  pub walk-goes : (at : ℕ → Step A) (n p : ℕ) (xs : List A) → walk at n p ≡ whole xs → Goes at p xs
+  pub walk-goes : (n p : ℕ) (xs : List (Placed A)) → walk from at n p ≡ whole xs → Goes p xs
   unfolding after
-  walk-goes at zero p xs h = broken-whole p xs (unfold walk in h)
-  walk-goes at (suc n) p xs h =
+  walk-goes zero p xs h = broken-whole (from + p) xs (unfold walk in h)
+  walk-goes (suc n) p xs h =
       cases-step (at p)
-      (λ a q e. cases-walk (walk at n q)
-      (λ ys w. subst (Goes at p) (whole-is (a ∷ ys) xs (sym (walk-item at n p a q e ∙ ap (after a) w) ∙ h)) (q, e, walk-goes at n q ys w))
-      (λ r w. broken-whole r xs (sym (walk-item at n p a q e ∙ ap (after a) w) ∙ h)))
-      (λ e. subst (Goes at p) (whole-is [] xs (sym (walk-end at n p e) ∙ h)) e)
-      (λ e. broken-whole p xs (sym (walk-wrong at n p e) ∙ h))
+      (λ a q e. cases-walk (walk from at n q)
+      (λ ys w. subst (Goes p) (whole-is _ xs (sym (walk-item n p a q e ∙ ap (after _) w) ∙ h)) (q, e, refl, walk-goes n q ys w))
+      (λ r w. broken-whole r xs (sym (walk-item n p a q e ∙ ap (after _) w) ∙ h)))
+      (λ e. subst (Goes p) (whole-is [] xs (sym (walk-end n p e) ∙ h)) e)
+      (λ e. broken-whole (from + p) xs (sym (walk-wrong n p e) ∙ h))
 
   -- what every item that stands somewhere has
-  pub goes-every : (P : A → Type 0) (at : ℕ → Step A) → ((p : ℕ) (a : A) (q : ℕ) → at p ≡ item a q → P a) → (p : ℕ) (xs : List A)
-      → Goes at p xs → Every P xs
-  goes-every P at h p [] g = tt
-  goes-every P at h p (a ∷ xs) g = (h p a (g .0) (g .1), goes-every P at h (g .0) xs (g .2))
+  pub goes-every : (P : Placed A → Type 0) → ((p : ℕ) (x : Placed A) (q : ℕ) → at p ≡ item (x .what) q → x .place ≡ from + p → P x)
+      → (p : ℕ) (xs : List (Placed A)) → Goes p xs → Every P xs
+  goes-every P h p [] g = tt
+  goes-every P h p (x ∷ xs) g = (h p x (g .0) (g .1) (g .2), goes-every P h (g .0) xs (g .3))
+
+-- the same where they are counted from the block's first byte
+module _ {A : Type 0} (at : ℕ → Step A) (n p : ℕ) where
+  pub block-item : (a : A) (q : ℕ) → at p ≡ item a q → walk 0 at (suc n) p ≡ after (record { place = p; what = a }) (walk 0 at n q)
+  block-item a q e = walk-item 0 at n p a q e ∙ ap (λ (r : ℕ). after (record { place = r; what = a }) (walk 0 at n q)) (zero-add p)
+
+  pub block-wrong : at p ≡ wrong → walk 0 at (suc n) p ≡ broken p
+  block-wrong e = walk-wrong 0 at n p e ∙ ap broken (zero-add p)
 
 -- ---- the FIGs of a block, and the fields of a FIG, by their places
 
@@ -120,20 +130,29 @@ fig-item fib p fig q l =
     (λ i e. item-along (FigStands fib p) _ fig _ q e (fig-stands fib p (getD fib p 0 % 32) l h z i)))))
 
 -- the FIGs of a block are within its 30 bytes of data, each with one byte in front
-unfoldable pub figBytesIn : List Fig → ℕ
+unfoldable pub figBytesIn : List (Placed Fig) → ℕ
 figBytesIn [] = 0
-figBytesIn (fig ∷ gs) = 1 + length (fig .body) + figBytesIn gs
+figBytesIn (fig ∷ gs) = 1 + length (fig .what .body) + figBytesIn gs
 
-pub figs-inside : (fib : List ℕ) (p : ℕ) (gs : List Fig) → length fib ≡ 32 → p ≤ 30 → Goes (figAt fib) p gs → p + figBytesIn gs ≤ 30
+pub figs-inside : (fib : List ℕ) (p : ℕ) (gs : List (Placed Fig)) → length fib ≡ 32 → p ≤ 30 → Goes 0 (figAt fib) p gs → p + figBytesIn gs ≤ 30
 unfolding figBytesIn
 figs-inside fib p [] l h g = omega arith
 figs-inside fib p (fig ∷ gs) l h g =
-    let s = fig-item fib p fig (g .0) l (g .1) in
-    omega (arith, figs-inside fib (g .0) gs l (s .inside) (g .2), s .ends)
+    let s = fig-item fib p (fig .what) (g .0) l (g .1) in
+    omega (arith, figs-inside fib (g .0) gs l (s .inside) (g .3), s .ends)
 
-pub figs-every : (P : Fig → Type 0) (fib : List ℕ) → ((p : ℕ) (fig : Fig) (q : ℕ) → FigStands fib p fig q → P fig) → (p : ℕ) (gs : List Fig)
-    → length fib ≡ 32 → Goes (figAt fib) p gs → Every P gs
-figs-every P fib h p gs l = goes-every P (figAt fib) (λ p fig q e. h p fig q (fig-item fib p fig q l e)) p gs
+pub figs-goes : (fib : List ℕ) (gs : List (Placed Fig)) → figs fib ≡ whole gs → Goes 0 (figAt fib) 0 gs
+unfolding figs
+figs-goes fib gs h = walk-goes 0 (figAt fib) 31 0 gs h
+
+-- what stands at the place of each FIG of a block is that FIG
+pub figs-at : (fib : List ℕ) (gs : List (Placed Fig)) → figs fib ≡ whole gs
+    → Every (λ fig. (q : ℕ) × (figAt fib (fig .place) ≡ item (fig .what) q)) gs
+figs-at fib gs h = goes-every 0 (figAt fib) _ (λ p fig q e s. (q, ap (figAt fib) (s ∙ zero-add p) ∙ e)) 0 gs (figs-goes fib gs h)
+
+pub figs-every : (P : Placed Fig → Type 0) (fib : List ℕ) → ((fig : Placed Fig) (q : ℕ) → FigStands fib (fig .place) (fig .what) q → P fig)
+    → (gs : List (Placed Fig)) → length fib ≡ 32 → figs fib ≡ whole gs → Every P gs
+figs-every P fib h gs l w = every-imp _ P (λ fig s. h fig (s .0) (fig-item fib (fig .place) (fig .what) (s .0) l (s .1))) gs (figs-at fib gs w)
 
 pub body-bytes : (fib : List ℕ) (p : ℕ) (fig : Fig) (q : ℕ) → Bytes fib → FigStands fib p fig q → Bytes (fig .body)
 body-bytes fib p fig q b s =
@@ -254,21 +273,27 @@ field-item body p f q =
 -- ---- all fields of a block
 
 -- fields take two bytes each at least
-pub fields-inside : (body : List ℕ) (p : ℕ) (fs : List Field) → p ≤ length body → Goes (fieldAt body) p fs → p + 2 * length fs ≤ length body
-fields-inside body p [] h g = omega arith
-fields-inside body p (f ∷ fs) h g =
-    let s = field-item body p f (g .0) (g .1) in
-    omega (arith, fields-inside body (g .0) fs (s .inside) (g .2), s .from)
+pub fields-inside : (from : ℕ) (body : List ℕ) (p : ℕ) (fs : List (Placed Field)) → p ≤ length body → Goes from (fieldAt body) p fs
+    → p + 2 * length fs ≤ length body
+fields-inside from body p [] h g = omega arith
+fields-inside from body p (f ∷ fs) h g =
+    let s = field-item body p (f .what) (g .0) (g .1) in
+    omega (arith, fields-inside from body (g .0) fs (s .inside) (g .3), s .from)
 
-pub fields-fit : (fig : Fig) (fs : List Field) → 1 ≤ length (fig .body) → fieldsOf fig ≡ whole fs → 1 + 2 * length fs ≤ length (fig .body)
+-- the fields of a FIG, from its body's second byte on
+pub fields-goes : (fig : Placed Fig) (fs : List (Placed Field)) → fieldsOf fig ≡ whole fs → Goes (fig .place + 1) (fieldAt (fig .what .body)) 1 fs
 unfolding fieldsOf
-fields-fit fig fs s h = fields-inside (fig .body) 1 fs s (walk-goes (fieldAt (fig .body)) (length (fig .body)) 1 fs h)
+fields-goes fig fs h = walk-goes (fig .place + 1) (fieldAt (fig .what .body)) (length (fig .what .body)) 1 fs h
 
-pub fields-bits : (fig : Fig) (fs : List Field) → Bytes (fig .body) → fieldsOf fig ≡ whole fs → Every FieldBits fs
-unfolding fieldsOf
-fields-bits fig fs b h =
-    goes-every FieldBits (fieldAt (fig .body)) (λ p f q e. field-item (fig .body) p f q e .bits b) 1 fs
-    (walk-goes (fieldAt (fig .body)) (length (fig .body)) 1 fs h)
+pub fields-fit : (fig : Placed Fig) (fs : List (Placed Field)) → 1 ≤ length (fig .what .body) → fieldsOf fig ≡ whole fs
+    → 1 + 2 * length fs ≤ length (fig .what .body)
+fields-fit fig fs s h = fields-inside (fig .place + 1) (fig .what .body) 1 fs s (fields-goes fig fs h)
+
+-- what every field that stands in a FIG has
+pub fields-every : (P : Placed Field → Type 0) (fig : Placed Fig)
+    → ((p : ℕ) (f : Placed Field) (q : ℕ) → fieldAt (fig .what .body) p ≡ item (f .what) q → f .place ≡ fig .place + 1 + p → P f)
+    → (fs : List (Placed Field)) → fieldsOf fig ≡ whole fs → Every P fs
+fields-every P fig h fs e = goes-every (fig .place + 1) (fieldAt (fig .what .body)) P h 1 fs (fields-goes fig fs e)
 
 -- two walks, one after the other
 pub joined-whole {ℓ} : {A : Type 0} {C : Type ℓ} (v w : Walk A) (zs : List A) → joined v w ≡ whole zs
@@ -279,24 +304,25 @@ joined-whole (whole xs) (broken p) zs h c = broken-whole p zs h
 joined-whole (broken p) w zs h c = broken-whole p zs h
 
 -- what the fields of every linking FIG have
-pub all-every : (P : Field → Type 0) (gs : List Fig) → Every (λ fig. (fs : List Field) → fieldsOf fig ≡ whole fs → Every P fs) gs
-    → (fs : List Field) → allFields gs ≡ whole fs → Every P fs
+pub all-every : (P : Placed Field → Type 0) (gs : List (Placed Fig))
+    → Every (λ fig. (fs : List (Placed Field)) → fieldsOf fig ≡ whole fs → Every P fs) gs
+    → (fs : List (Placed Field)) → allFields gs ≡ whole fs → Every P fs
 unfolding allFields
 all-every P [] h fs = λ e. subst (Every P) (whole-is [] fs e) tt
 all-every P (fig ∷ gs) h fs =
-    cond-both (λ (w : Walk Field). w ≡ whole fs → Every P fs) (isLinking fig) (joined (fieldsOf fig) (allFields gs)) (allFields gs)
+    cond-both (λ (w : Walk (Placed Field)). w ≡ whole fs → Every P fs) (isLinking (fig .what)) (joined (fieldsOf fig) (allFields gs)) (allFields gs)
     (λ e. joined-whole (fieldsOf fig) (allFields gs) fs e
     (λ xs ys v w q. subst (Every P) (sym q) (every-append P xs ys (h .0 xs v) (all-every P gs (h .1) ys w))))
     (all-every P gs (h .1) fs)
 
 -- two bytes for each field, and two more for a FIG that has one
-pub all-fit : (gs : List Fig) → Every (λ fig. 1 ≤ length (fig .body)) gs → (fs : List Field) → allFields gs ≡ whole fs
+pub all-fit : (gs : List (Placed Fig)) → Every (λ fig. 1 ≤ length (fig .what .body)) gs → (fs : List (Placed Field)) → allFields gs ≡ whole fs
     → 1 ≤ length fs → 2 + 2 * length fs ≤ figBytesIn gs
 unfolding allFields figBytesIn
 all-fit [] h fs = λ e l. absurd (omega (arith, ap length (whole-is [] fs e)))
 all-fit (fig ∷ gs) h fs =
-    cond-both (λ (w : Walk Field). w ≡ whole fs → 1 ≤ length fs → 2 + 2 * length fs ≤ 1 + length (fig .body) + figBytesIn gs)
-    (isLinking fig) (joined (fieldsOf fig) (allFields gs)) (allFields gs)
+    cond-both (λ (w : Walk (Placed Field)). w ≡ whole fs → 1 ≤ length fs → 2 + 2 * length fs ≤ 1 + length (fig .what .body) + figBytesIn gs)
+    (isLinking (fig .what)) (joined (fieldsOf fig) (allFields gs)) (allFields gs)
     (λ e l. joined-whole (fieldsOf fig) (allFields gs) fs e
     (λ xs ys v w q.
     let n = ap length q ∙ length-append xs ys in
@@ -311,11 +337,13 @@ all-fit (fig ∷ gs) h fs =
 pub record TakenBlock (fib : List ℕ) (fs : List Field) : Type 0 where
   pub size : length fib ≡ 32
   pub check : checkHolds fib ≡ true
-  pub parts : List Fig
+  pub parts : List (Placed Fig)
   pub walked : figs fib ≡ whole parts
-  pub filled : allFields parts ≡ whole fs
-  pub values : some? wrongValue fs ≡ false
-  pub starts : some? emptyStart fs ≡ false
+  pub fields : List (Placed Field)
+  pub filled : allFields parts ≡ whole fields
+  pub values : some? wrongValue fields ≡ false
+  pub starts : some? emptyStart fields ≡ false
+  pub are : map whatOf fields ≡ fs
 
 pub refused-taken {ℓ} : {C : Type ℓ} (o : Outcome) (fs : List Field) → _≡_ {A = Verdict} (refused o) (taken fs) → C
 refused-taken o fs h = let z : _≡_ {A = ℕ} 0 1 = cc in absurd (omega arith)
@@ -323,20 +351,17 @@ refused-taken o fs h = let z : _≡_ {A = ℕ} 0 1 = cc in absurd (omega arith)
 pub noBlock-taken {ℓ} : {C : Type ℓ} (fs : List Field) → _≡_ {A = Verdict} noBlock (taken fs) → C
 noBlock-taken fs h = let z : _≡_ {A = ℕ} 0 1 = cc in absurd (omega arith)
 
-pub fields-taken : (w : Walk Field) (fs : List Field) → judgeFields w ≡ taken fs
-    → (w ≡ whole fs) × (some? wrongValue fs ≡ false) × (some? emptyStart fs ≡ false)
+pub fields-taken {ℓ} : {C : Type ℓ} (w : Walk (Placed Field)) (fs : List Field) → judgeFields w ≡ taken fs
+    → ((xs : List (Placed Field)) → w ≡ whole xs → some? wrongValue xs ≡ false → some? emptyStart xs ≡ false → map whatOf xs ≡ fs → C) → C
 unfolding judgeFields
-fields-taken (broken p) fs = λ h. refused-taken _ fs h
-fields-taken (whole gs) fs =
-    cond-cases (λ (v : Verdict). v ≡ taken fs → (whole gs ≡ whole fs) × (some? wrongValue fs ≡ false) × (some? emptyStart fs ≡ false))
-    (some? wrongValue gs) _ _ (λ v e. refused-taken _ fs e) (λ v.
-    cond-cases (λ (v : Verdict). v ≡ taken fs → (whole gs ≡ whole fs) × (some? wrongValue fs ≡ false) × (some? emptyStart fs ≡ false))
-    (some? emptyStart gs) _ _ (λ s e. refused-taken _ fs e) (λ s e.
-    let p : gs ≡ fs = cc in
-    (ap whole p, ap (some? wrongValue) (sym p) ∙ v, ap (some? emptyStart) (sym p) ∙ s)))
+fields-taken (broken p) fs h c = refused-taken _ fs h
+fields-taken {C = C} (whole xs) fs h c =
+    cond-cases (λ (v : Verdict). v ≡ taken fs → C) (some? wrongValue xs) _ _ (λ v e. refused-taken _ fs e) (λ v.
+    cond-cases (λ (v : Verdict). v ≡ taken fs → C) (some? emptyStart xs) _ _ (λ s e. refused-taken _ fs e) (λ s e. c xs refl v s cc))
+    h
 
-pub figs-taken {ℓ} : {C : Type ℓ} (w : Walk Fig) (fs : List Field) → judgeFigs w ≡ taken fs
-    → ((gs : List Fig) → w ≡ whole gs → judgeFields (allFields gs) ≡ taken fs → C) → C
+pub figs-taken {ℓ} : {C : Type ℓ} (w : Walk (Placed Fig)) (fs : List Field) → judgeFigs w ≡ taken fs
+    → ((gs : List (Placed Fig)) → w ≡ whole gs → judgeFields (allFields gs) ≡ taken fs → C) → C
 unfolding judgeFigs
 figs-taken (broken p) fs h c = refused-taken _ fs h
 figs-taken (whole gs) fs h c = c gs refl h
@@ -348,37 +373,31 @@ taken-block fib fs =
     cond-cases (λ (v : Verdict). v ≡ taken fs → TakenBlock fib fs) (eqb (length fib) 32) _ _
     (λ l. cond-cases (λ (v : Verdict). v ≡ taken fs → TakenBlock fib fs) (checkHolds fib) _ _
     (λ c e. figs-taken (figs fib) fs e (λ gs w j.
-    let r = fields-taken (allFields gs) fs j in
+    fields-taken (allFields gs) fs j (λ xs f v s a.
     record {
       size = eqb-true (length fib) 32 l;
       check = c;
       parts = gs;
       walked = w;
-      filled = r .0;
-      values = r .1;
-      starts = r .2;
-    }))
+      fields = xs;
+      filled = f;
+      values = v;
+      starts = s;
+      are = a;
+    })))
     (λ c e. refused-taken _ fs e))
     (λ l e. noBlock-taken fs e)
-
-pub figs-goes : (fib : List ℕ) (gs : List Fig) → figs fib ≡ whole gs → Goes (figAt fib) 0 gs
-unfolding figs
-figs-goes fib gs h = walk-goes (figAt fib) 31 0 gs h
 
 -- a taken block has at most 14 fields
 pub taken-few : (fib : List ℕ) (fs : List Field) → verdict fib ≡ taken fs → length fs ≤ 14
 taken-few fib fs h =
     let b = taken-block fib fs h in
-    let g = figs-goes fib (b .parts) (b .walked) in
-    let n = figs-inside fib 0 (b .parts) (b .size) (omega arith) g in
+    let n = figs-inside fib 0 (b .parts) (b .size) (omega arith) (figs-goes fib (b .parts) (b .walked)) in
+    let many = sym (length-map (b .fields) whatOf) ∙ ap length (b .are) in
+    let sizes = figs-every (λ fig. 1 ≤ length (fig .what .body)) fib (λ fig q s. s .size) (b .parts) (b .size) (b .walked) in
     cases-bool (ltb (length fs) 1)
     (λ z. omega (arith, ltb-true (length fs) 1 z))
-    (λ z. omega (
-      arith,
-      n,
-      all-fit (b .parts) (figs-every (λ fig. 1 ≤ length (fig .body)) fib (λ p fig q s. s .size) 0 (b .parts) (b .size) g) fs
-          (b .filled) (ltb-false (length fs) 1 z),
-    ))
+    (λ z. omega (arith, n, many, all-fit (b .parts) sizes (b .fields) (b .filled) (omega (arith, many, ltb-false (length fs) 1 z))))
 
 -- ---- a field of a taken block
 
@@ -391,10 +410,10 @@ pub record GoodField (f : Field) : Type 0 where
   pub data-dab : f .pd ≡ 1 → f .qualifier ≡ 0
   pub start : hasList f ≡ true → isContinuation f ≡ false → 1 ≤ length (f .numbers)
 
-pub none-of : (p : Field → Bool) (fs : List Field) → some? p fs ≡ false → Every (λ f. p f ≡ false) fs
+pub none-of : (p : Field → Bool) (fs : List (Placed Field)) → some? p fs ≡ false → Every (λ f. p (f .what) ≡ false) fs
 unfolding some?
 none-of p [] h = tt
-none-of p (f ∷ fs) h = (or-false-left (p f) (some? p fs) h, none-of p fs (or-false-right (p f) (some? p fs) h))
+none-of p (f ∷ fs) h = (or-false-left (p (f .what)) (some? p fs) h, none-of p fs (or-false-right (p (f .what)) (some? p fs) h))
 
 pub data-field : (f : Field) → (eqb (f .pd) 1 && not (eqb (f .qualifier) 0)) ≡ false → f .pd ≡ 1 → f .qualifier ≡ 0
 data-field f h p =
@@ -425,13 +444,16 @@ good-field f b v s =
 pub taken-good : (fib : List ℕ) (fs : List Field) → Bytes fib → verdict fib ≡ taken fs → Every GoodField fs
 taken-good fib fs bytes h =
     let b = taken-block fib fs h in
-    let g = figs-goes fib (b .parts) (b .walked) in
-    let bits : Every FieldBits fs =
-    all-every FieldBits (b .parts)
-    (figs-every (λ fig. (fs : List Field) → fieldsOf fig ≡ whole fs → Every FieldBits fs) fib
-    (λ p fig q s fs. fields-bits fig fs (body-bytes fib p fig q bytes s)) 0 (b .parts) (b .size) g)
-    fs (b .filled) in
-    every-both (λ f. wrongValue f ≡ false) (λ f. FieldBits f × (emptyStart f ≡ false)) GoodField (λ f v c. good-field f (c .0) v (c .1)) fs
-    (none-of wrongValue fs (b .values))
-    (every-both FieldBits (λ f. emptyStart f ≡ false) (λ f. FieldBits f × (emptyStart f ≡ false)) (λ f c s. (c, s)) fs bits
-    (none-of emptyStart fs (b .starts)))
+    let Bits : Placed Field → Type 0 = λ f. FieldBits (f .what) in
+    let Right : Placed Field → Type 0 = λ f. (wrongValue (f .what) ≡ false) × (emptyStart (f .what) ≡ false) in
+    let bits : Every Bits (b .fields) =
+    all-every Bits (b .parts)
+    (figs-every (λ fig. (xs : List (Placed Field)) → fieldsOf fig ≡ whole xs → Every Bits xs) fib
+    (λ fig q s. fields-every Bits fig (λ p f r e at. field-item (fig .what .body) p (f .what) r e .bits (body-bytes fib (fig .place) (fig .what) q bytes s)))
+    (b .parts) (b .size) (b .walked))
+    (b .fields) (b .filled) in
+    let right : Every Right (b .fields) =
+    every-both _ _ Right (λ f v s. (v, s)) (b .fields) (none-of wrongValue (b .fields) (b .values)) (none-of emptyStart (b .fields) (b .starts)) in
+    subst (Every GoodField) (b .are)
+    (every-map GoodField whatOf (b .fields)
+    (every-both Bits Right (λ f. GoodField (f .what)) (λ f c r. good-field (f .what) c (r .0) (r .1)) (b .fields) bits right))

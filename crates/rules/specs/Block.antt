@@ -59,21 +59,32 @@ pub data Step (A : Type 0) : Type 0 where
   end : Step A
   wrong : Step A
 
--- all the items up to the end, or the place of the first that is wrong
+-- an item and where it stands: its place counted from the block's first byte
+pub record Placed (A : Type 0) : Type 0 where
+  pub place : ℕ
+  pub what : A
+
+-- the item by itself
+abbrev pub whatOf : {A : Type 0} → Placed A → A
+whatOf x = x .what
+
+-- all the items up to the end, or the place in the block of the first that is wrong
 pub data Walk (A : Type 0) : Type 0 where
   whole : List A → Walk A
   broken : ℕ → Walk A
 
-module _ {A : Type 0} where
-  -- a walk with one item more in front
-  unfoldable pub after : A → Walk A → Walk A
-  after a (whole rest) = whole (a ∷ rest)
-  after a (broken place) = broken place
+-- a walk with one item more in front
+unfoldable pub after : {A : Type 0} → A → Walk A → Walk A
+after a (whole rest) = whole (a ∷ rest)
+after a (broken place) = broken place
 
-  -- from a place on, in at most n steps (each step goes on by a byte or more, so that n is never used up)
-  unfoldable pub walk : (ℕ → Step A) → ℕ → ℕ → Walk A
-  walk at zero place = broken place
-  walk at (suc n) place = elim (at place) [ item a next ↦ after a (walk at n next) | end ↦ whole [] | wrong ↦ broken place ]
+-- from a place on, in at most n steps (each step goes on by a byte or more, so that n is never used up); places are counted
+-- from the block's byte from
+unfoldable pub walk : {A : Type 0} → ℕ → (ℕ → Step A) → ℕ → ℕ → Walk (Placed A)
+walk from at zero place = broken (from + place)
+walk from at (suc n) place =
+    elim (at place)
+    [ item a next ↦ after (record { place = from + place; what = a }) (walk from at n next) | end ↦ whole [] | wrong ↦ broken (from + place) ]
 
 -- ---- the FIGs
 
@@ -93,5 +104,5 @@ figAt fib place =
     (item (record { type = getD fib place 0 / 32; body = take (getD fib place 0 % 32) (drop (place + 1) fib) }) (place + 1 + getD fib place 0 % 32)))))
 
 -- the FIGs of a block
-unfoldable pub figs : List ℕ → Walk Fig
-figs fib = walk (figAt fib) 31 0
+unfoldable pub figs : List ℕ → Walk (Placed Fig)
+figs fib = walk 0 (figAt fib) 31 0

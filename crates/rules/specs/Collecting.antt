@@ -18,7 +18,14 @@ samePair p q = eqb (p .kind) (q .kind) && eqb (p .number) (q .number)
 unfoldable pub joinNames : ℕ → ℕ → ℕ
 joinNames a b = max (a % 2) (b % 2) + 2 * max (a / 2) (b / 2)
 
--- keys and identifiers of linking, on or off, 32 keys, 128 identifiers to a set
+-- the limits: keys to a table, identifiers to a set
+abbrev pub mostKeys : ℕ
+mostKeys = 32
+
+abbrev pub mostIds : ℕ
+mostIds = 128
+
+-- keys and identifiers of linking, on or off
 abbrev pub linkage : Family
 linkage =
     record {
@@ -32,8 +39,8 @@ linkage =
       State = Bool;
       Stamp = Unit {0};
       unstamped = tt;
-      room = 32;
-      most = 128;
+      room = mostKeys;
+      most = mostIds;
     }
 
 -- a shown set or an open list; what is held of a key; of all keys, in ascending order
@@ -73,6 +80,10 @@ said f = record { key = keyOf f; state = eqb (f .la) 1; act = actOf f; stamp = t
 
 -- ---- the table rules
 
+-- a number that is a key: below 65,536, with LSN not 0
+abbrev pub isKey : ℕ → Bool
+isKey k = ltb k 65536 && not (eqb (k % 4096) 0)
+
 -- the bytes of an identifier of a key, by its P/D and ILS bits
 unfoldable pub keyWidth : ℕ → ℕ
 keyWidth k = width (k / 16384 % 2) (k / 4096 % 2)
@@ -111,14 +122,14 @@ namesMeet k named = cond (eqb (k / 16384 % 2) 1) (eqb named 0) (ltb named 4)
 -- a shown set or an open list: 1 to 128 different pairs, the first of a kind that may begin it, ..
 unfoldable pub setMeets : ℕ → IdSet → Bool
 setMeets k l =
-    leb (length (l .items)) 128 && notEmpty (l .items) && beginsRight k (l .items) && allDiffer (l .items)
+    leb (length (l .items)) mostIds && notEmpty (l .items) && beginsRight k (l .items) && allDiffer (l .items)
     && pairsMeet (keyWidth k) (l .named) (l .items) && namesMeet k (l .named)
 
--- the rules of linkage: a key below 65,536 with LSN not 0, its sets, and the first key above 0
+-- the rules of linkage: a key, its sets, and the first key above 0
 abbrev pub linkageRules : Rules linkage
 linkageRules =
     record {
-      keyMeets = λ k. ltb k 65536 && not (eqb (k % 4096) 0);
+      keyMeets = isKey;
       listMeets = setMeets;
       stampMeets = λ shown stamp. true;
       begins = ltb 0;

@@ -1,5 +1,5 @@
 -- Collecting (document 01), over a family of keys and items: linkage sets are an instance (Collecting.antt).
-use Prim.Native.Nat.{ℕ}
+use Prim.Native.Nat.{ℕ, suc}
 use mathlib.Core.Bool.{Bool, true, false, not, cond, _&&_, _||_}
 use mathlib.Core.List.{List, [], _∷_, _++_, map}
 use mathlib.Core.Option.{Option, none, some}
@@ -171,6 +171,11 @@ module _ (F : Family) where
   unfoldable pub forget : Key → List Entry → List Entry
   forget k [] = []
   forget k (e ∷ es) = cond (sameKey k (e .key)) es (e ∷ forget k es)
+
+  -- among keys in ascending order, the place at which a key stands or would stand: the first whose key is not before it
+  unfoldable pub placeIn : List Key → Key → ℕ
+  placeIn [] k = 0
+  placeIn (l ∷ ls) k = cond (keyBefore l k) (suc (placeIn ls k)) 0
 
   -- ---- the table rules
 

@@ -10,7 +10,7 @@ use Rattle.rules.specs.declared.Outcome.{Outcome}
 use Rattle.rules.specs.declared.Outcome.the-variants.{Done, NotABlock, CheckFails, WrongFig, WrongField, WrongValue, EmptyStart, NotHeld, ShortBuffer, WrongTable, NotASheet, NotShown, TooMuch, TooManyPieces, BadCode}
 use Rattle.rules.specs.declared.Note.{Note}
 use Rattle.rules.specs.declared.Note.the-variants.{Opened, ShownAndOpened, Added, NoOpenList, Full, TooLong, StateOnly, UnknownKey, Dropped}
-use Rattle.rules.specs.Block.{Walk, whole, broken, Fig, figs, checkHolds}
+use Rattle.rules.specs.Block.{Placed, whatOf, Walk, whole, broken, Fig, figs, checkHolds}
 use Rattle.rules.specs.Field.{Field, isLinking, fieldsOf, wrongValue, emptyStart, numberIn, kindIn}
 use Rattle.rules.specs.Family.{steps, dropOpen, forget, find}
 use Rattle.rules.specs.Collecting.{linkage, IdSet, Held, Content, withSets, said}
@@ -60,21 +60,22 @@ joined (whole xs) (broken p) = broken p
 joined (broken p) rest = broken p
 
 -- the fields of all linking FIGs, in order; the other FIGs are stepped over
-unfoldable pub allFields : List Fig → Walk Field
+unfoldable pub allFields : List (Placed Fig) → Walk (Placed Field)
 allFields [] = whole []
-allFields (fig ∷ rest) = cond (isLinking fig) (joined (fieldsOf fig) (allFields rest)) (allFields rest)
+allFields (fig ∷ rest) = cond (isLinking (fig .what)) (joined (fieldsOf fig) (allFields rest)) (allFields rest)
 
-unfoldable pub some? : (Field → Bool) → List Field → Bool
+unfoldable pub some? : (Field → Bool) → List (Placed Field) → Bool
 some? p [] = false
-some? p (f ∷ fs) = p f || some? p fs
+some? p (f ∷ fs) = p (f .what) || some? p fs
 
 -- 5, then 6
-unfoldable pub judgeFields : Walk Field → Verdict
+unfoldable pub judgeFields : Walk (Placed Field) → Verdict
 judgeFields (broken p) = refused WrongField
-judgeFields (whole fs) = cond (some? wrongValue fs) (refused WrongValue) (cond (some? emptyStart fs) (refused EmptyStart) (taken fs))
+judgeFields (whole fs) =
+    cond (some? wrongValue fs) (refused WrongValue) (cond (some? emptyStart fs) (refused EmptyStart) (taken (map whatOf fs)))
 
 -- 4, then those
-unfoldable pub judgeFigs : Walk Fig → Verdict
+unfoldable pub judgeFigs : Walk (Placed Fig) → Verdict
 judgeFigs (broken p) = refused WrongFig
 judgeFigs (whole gs) = judgeFields (allFields gs)
 

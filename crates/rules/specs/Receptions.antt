@@ -3,7 +3,7 @@
 use Prim.Native.Nat.{ℕ, zero, suc}
 use mathlib.Core.Path.{_≡_}
 use mathlib.Core.Bool.{Bool, false, cond, _||_}
-use mathlib.Core.List.{List, [], _∷_, _++_}
+use mathlib.Core.List.{List, [], _∷_, _++_, map}
 use mathlib.Core.Option.{Option, some}
 use lib.ListN.{length}
 use Rattle.rules.specs.declared.Note.the-variants.{ShownAndOpened}
@@ -13,9 +13,8 @@ module _ (F : Family) where
   open Family F using (Key, sameKey, State)
 
   -- the held keys
-  unfoldable pub heldKeys : List (Entry F) → List Key
-  heldKeys [] = []
-  heldKeys (e ∷ es) = e .key ∷ heldKeys es
+  abbrev pub heldKeys : List (Entry F) → List Key
+  heldKeys t = map (λ (e : Entry F). e .key) t
 
   -- a start's key in front of other keys
   unfoldable pub ifStart : Act F → Key → List Key → List Key

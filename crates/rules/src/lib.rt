@@ -1,6 +1,6 @@
 // The rules of document 01 as definitions, on plain data: see specs/, one module for each section of
 // the document and in its order, and proofs/ for the laws above them. The only code here are the two
-// enums that an answer is made of, so that the definitions and every program speak of the same ones.
+// enums that an answer is made of and the kinds of identifiers, so that the definitions and every program speak of the same ones.
 // Their numbers in document 01 are numberOf and noteNumber of specs/Outcomes.antt. The outcomes above 11 and the note above 8 are document
 // 02's and wait for their requests.
 
@@ -59,3 +59,10 @@ pub enum Note {
     // 9: the open list was dropped by a count of 0 (R-4)
     Dropped,
 }
+
+// The kinds of identifiers, by their qualifier: a DAB service, an RDS code, DRM or AMSS.
+pub const DAB: u8 = 0;
+
+pub const RDS: u8 = 1;
+
+pub const DRM: u8 = 3;

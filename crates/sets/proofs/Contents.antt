@@ -1,12 +1,12 @@
 -- One stored form stores one content. In order: a list; entries; a table (`store-injective`).
-use Prim.Native.Nat.{ℕ, _-_}
+use Prim.Native.Nat.{ℕ}
 use native.Mathlib.Omega.{arith}
 use mathlib.Core.Path.{_≡_, refl, sym, ap, ap₂, _∙_}
 use mathlib.Core.Bool.{true, false}
 use mathlib.Core.List.{[], _∷_, map}
 use mathlib.Core.Option.{Option, none, some}
 use lib.ListN.{length, length-map}
-use Rattle.rules.specs.Collecting.{IdSet, Held, Entries, ifThere, entryMeets, entriesMeet, setsMeet}
+use Rattle.rules.specs.Collecting.{IdSet, Held, Entries, ifThere, entryMeets, entriesMeet, setsMeet, mostKeys}
 use Rattle.rules.proofs.Basics.{and-left, and-right, same-head, same-tail}
 use Rattle.rules.proofs.Arrays.{padded-same}
 use Rattle.rules.proofs.TableRules.{set-rules, entry-rules, table-rules}
@@ -36,7 +36,7 @@ maybe-same k j (some l) (some m) f g e = ap (λ (x : IdSet). some x) (list-same 
 
 entry-same : (x y : Held) → entryMeets x ≡ true → entryMeets y ≡ true
     → keyIn x ≡ keyIn y → onIn x ≡ onIn y → shownIn x ≡ shownIn y → draftIn x ≡ draftIn y → x ≡ y
-unfolding keyIn onIn shownIn draftIn
+unfolding onIn shownIn draftIn
 entry-same x y f g k o s d =
     let a = entry-rules x .0 f in
     let b = entry-rules y .0 g in
@@ -62,7 +62,7 @@ unfolding storeSets
 store-injective c d f g e =
     let l : length c ≡ length d = ap (λ (t : Sets). t .count) e in
     entries-same c d (table-rules c .0 f .entries) (table-rules d .0 g .entries) l
-    (padded-same 32 0 (map keyIn c) (map keyIn d) (length-map c keyIn ∙ l ∙ sym (length-map d keyIn)) (ap (λ (t : Sets). t .keys) e))
-    (padded-same 32 false (map onIn c) (map onIn d) (length-map c onIn ∙ l ∙ sym (length-map d onIn)) (ap (λ (t : Sets). t .on) e))
-    (padded-same 32 emptyList (map shownIn c) (map shownIn d) (length-map c shownIn ∙ l ∙ sym (length-map d shownIn)) (ap (λ (t : Sets). t .shown) e))
-    (padded-same 32 emptyList (map draftIn c) (map draftIn d) (length-map c draftIn ∙ l ∙ sym (length-map d draftIn)) (ap (λ (t : Sets). t .draft) e))
+    (padded-same mostKeys 0 (map keyIn c) (map keyIn d) (length-map c keyIn ∙ l ∙ sym (length-map d keyIn)) (ap (λ (t : Sets). t .keys) e))
+    (padded-same mostKeys false (map onIn c) (map onIn d) (length-map c onIn ∙ l ∙ sym (length-map d onIn)) (ap (λ (t : Sets). t .on) e))
+    (padded-same mostKeys emptyList (map shownIn c) (map shownIn d) (length-map c shownIn ∙ l ∙ sym (length-map d shownIn)) (ap (λ (t : Sets). t .shown) e))
+    (padded-same mostKeys emptyList (map draftIn c) (map draftIn d) (length-map c draftIn ∙ l ∙ sym (length-map d draftIn)) (ap (λ (t : Sets). t .draft) e))

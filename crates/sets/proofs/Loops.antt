@@ -1,6 +1,6 @@
 -- One turn of each loop over a table's arrays. In order: the values from a place on; the test of the keys; the test of the
 -- flags; the search for a place.
-use Prim.Native.Nat.{ℕ, suc, _+_, _%_, _<_, _≤_, min}
+use Prim.Native.Nat.{ℕ, suc, _+_, _<_, _≤_, min}
 use native.Mathlib.Numerals.{add-one}
 use native.Mathlib.Omega.{arith}
 use mathlib.Core.Path.{_≡_, sym, ap, _∙_}
@@ -8,7 +8,9 @@ use mathlib.Core.Bool.{Bool, true, false}
 use mathlib.Core.List.{List, [], _∷_}
 use lib.ListN.{length, getD, take, drop, length-take, drop-of-length-le}
 use lib.Seq.{drop-cons, getD-take}
-use borrow.Author.Tests.{eq-eqb, ne-eqb, lt-ltb, le-ltb}
+use borrow.Author.Tests.{lt-ltb, le-ltb}
+use Rattle.rules.specs.Family as Family
+use Rattle.rules.specs.Collecting.{isKey}
 use Rattle.sets.specs.Places.{placeIn, keysMeet, allOff}
 
 -- ---- the values from a place on
@@ -27,23 +29,17 @@ module _ (keys : List ℕ) (count last i end : ℕ) (end-is : end ≡ min count 
   abbrev Rest : ℕ → ℕ → Type 0
   Rest k j = keysMeet k (drop j (take count keys)) ≡ keysMeet 0 (take count keys)
 
-  pub keys-next : i < end → last < getD keys i 0 → getD keys i 0 < 65536 → (getD keys i 0 % 4096 ≡ 0 → ⊥) → Rest last i → Rest (getD keys i 0) (i + 1)
+  pub keys-next : i < end → last < getD keys i 0 → isKey (getD keys i 0) ≡ true → Rest last i → Rest (getD keys i 0) (i + 1)
   unfolding keysMeet
-  keys-next h a b n e =
-      sym (ap (keysMeet last) (from-place keys count i 0 (omega arith)) ∙ rw (lt-ltb _ _ a, lt-ltb _ _ b, ne-eqb _ _ n)) ∙ e
+  keys-next h a k e = sym (ap (keysMeet last) (from-place keys count i 0 (omega arith)) ∙ rw (lt-ltb _ _ a, k)) ∙ e
 
   pub keys-not-after : i < end → getD keys i 0 ≤ last → Rest last i → false ≡ keysMeet 0 (take count keys)
   unfolding keysMeet
   keys-not-after h a e = sym (ap (keysMeet last) (from-place keys count i 0 (omega arith)) ∙ rw (le-ltb _ _ a)) ∙ e
 
-  pub keys-not-below : i < end → last < getD keys i 0 → 65536 ≤ getD keys i 0 → Rest last i → false ≡ keysMeet 0 (take count keys)
+  pub keys-not : i < end → last < getD keys i 0 → isKey (getD keys i 0) ≡ false → Rest last i → false ≡ keysMeet 0 (take count keys)
   unfolding keysMeet
-  keys-not-below h a b e = sym (ap (keysMeet last) (from-place keys count i 0 (omega arith)) ∙ rw (lt-ltb _ _ a, le-ltb _ _ b)) ∙ e
-
-  pub keys-not-numbered : i < end → last < getD keys i 0 → getD keys i 0 < 65536 → getD keys i 0 % 4096 ≡ 0 → Rest last i → false ≡ keysMeet 0 (take count keys)
-  unfolding keysMeet
-  keys-not-numbered h a b z e =
-      sym (ap (keysMeet last) (from-place keys count i 0 (omega arith)) ∙ rw (lt-ltb _ _ a, lt-ltb _ _ b, eq-eqb _ _ z)) ∙ e
+  keys-not h a k e = sym (ap (keysMeet last) (from-place keys count i 0 (omega arith)) ∙ rw (lt-ltb _ _ a, k)) ∙ e
 
   pub keys-end : end ≤ i → Rest last i → true ≡ keysMeet 0 (take count keys)
   unfolding keysMeet
@@ -71,21 +67,21 @@ module _ (xs : List Bool) (from i : ℕ) where
 
 module _ (keys : List ℕ) (count k i end : ℕ) (end-is : end ≡ min count (length keys)) where
   pub place-here : i < end → k ≤ getD keys i 0 → i + placeIn (drop i (take count keys)) k ≡ placeIn (take count keys) k → i ≡ placeIn (take count keys) k
-  unfolding placeIn
+  unfolding Family.placeIn
   place-here h a e =
       let z : placeIn (drop i (take count keys)) k ≡ 0 = ap (λ (l : List ℕ). placeIn l k) (from-place keys count i 0 (omega arith)) ∙ rw (le-ltb _ _ a) in
       omega arith
 
   pub place-next : i < end → getD keys i 0 < k → i + placeIn (drop i (take count keys)) k ≡ placeIn (take count keys) k
       → i + 1 + placeIn (drop (i + 1) (take count keys)) k ≡ placeIn (take count keys) k
-  unfolding placeIn
+  unfolding Family.placeIn
   place-next h a e =
       let z : placeIn (drop i (take count keys)) k ≡ suc (placeIn (drop (i + 1) (take count keys)) k) =
       ap (λ (l : List ℕ). placeIn l k) (from-place keys count i 0 (omega arith)) ∙ rw (lt-ltb _ _ a) in
       omega arith
 
   pub place-end : end ≤ i → i + placeIn (drop i (take count keys)) k ≡ placeIn (take count keys) k → i ≡ placeIn (take count keys) k
-  unfolding placeIn
+  unfolding Family.placeIn
   place-end h e =
       let z : placeIn (drop i (take count keys)) k ≡ 0 = ap (λ (l : List ℕ). placeIn l k) (from-end keys count i (omega arith)) in
       omega arith

@@ -11,15 +11,16 @@ use lib.ListN.{length, getD, drop, drop-of-length-le}
 use lib.Dec.{eqb}
 use lib.Seq.{drop-cons}
 use borrow.Author.Tests.{eq-eqb, ne-eqb}
-use Rattle.rules.specs.Collecting.{IdSet, Held, Entries, setsMeet, ifThere, Shown, showing, shownSets}
+use Rattle.rules.specs.Collecting.{IdSet, Held, Entries, setsMeet, ifThere, Shown, showing, shownSets, mostKeys}
 use Rattle.rules.proofs.Basics.{cases-bool}
 use Rattle.rules.proofs.TableRules.{set-rules, entry-rules, table-rules}
+use Rattle.rules.proofs.Entries.{column-at}
 use Rattle.lists.specs.Stored.{storeList, storeMaybe, emptyList}
 use Rattle.lists.proofs.StoredLaws.{pairs-in-store, not-none}
 use Rattle.sets.specs.declared.Sets.{Sets}
 use Rattle.sets.specs.Stored.{keyIn, onIn, shownIn, storeSets, past}
 use Rattle.sets.specs.Shown.{setIn, shownAs, ifShown, setsFrom, setsIn}
-use Rattle.sets.proofs.Entries.{noEntry, column-at, entry-at}
+use Rattle.sets.proofs.Entries.{noEntry, entry-at}
 
 -- ---- the sets from a place on, where `n` is the number of entries
 
@@ -52,10 +53,10 @@ module _ (t : Sets) (i n : ℕ) where
 
 -- ---- all the sets
 
-pub sets-all : (t : Sets) {n : ℕ} → n ≡ min (t .count) 32 → setsFrom t 0 (n - 0) ≡ setsIn t
+pub sets-all : (t : Sets) {n : ℕ} → n ≡ min (t .count) mostKeys → setsFrom t 0 (n - 0) ≡ setsIn t
 unfolding setsIn
 sets-all t {n} h =
-    let e : n - 0 ≡ min (t .count) 32 = omega arith in
+    let e : n - 0 ≡ min (t .count) mostKeys = omega arith in
     ap (setsFrom t 0) e
 
 -- there are no more than entries
@@ -66,9 +67,9 @@ sets-most t (suc n) i =
     let rest : length (setsFrom t (i + 1) n) ≤ n = sets-most t n (i + 1) in
     cases-bool (eqb (getD (t .shown) i past .len) 0) (λ e. rw e (omega arith)) (λ e. rw e (omega arith))
 
-pub sets-few : (t : Sets) → length (setsIn t) ≤ 32
+pub sets-few : (t : Sets) → length (setsIn t) ≤ mostKeys
 unfolding setsIn
-sets-few t = omega (arith, sets-most t (min (t .count) 32) 0)
+sets-few t = omega (arith, sets-most t (min (t .count) mostKeys) 0)
 
 -- ---- the sets of a stored table
 
@@ -90,7 +91,7 @@ set-there e (some l) rest m =
 
 module _ (c : Entries) (m : setsMeet c ≡ true) where
   sets-after : (n i : ℕ) → i + n ≡ length c → setsFrom (storeSets c) i n ≡ shownSets (drop i c)
-  unfolding setsFrom shownSets storeSets keyIn onIn shownIn
+  unfolding setsFrom shownSets storeSets onIn shownIn
   sets-after zero i e = sym (ap shownSets (drop-of-length-le c {i = i} (omega arith)))
   sets-after (suc n) i e =
       let h : i < length c = omega arith in
@@ -98,10 +99,10 @@ module _ (c : Entries) (m : setsMeet c ≡ true) where
       let rest = sets-after n (i + 1) (omega arith) in
       let here : drop i c ≡ f ∷ drop (i + 1) c = rw (add-one i) (drop-cons c i noEntry h) in
       ap₄ ifShown
-      (column-at keyIn 0 0 c i h) (column-at onIn false false c i h) (column-at shownIn emptyList past c i h) rest
+      (column-at keyIn mostKeys 0 c i 0 noEntry h) (column-at onIn mostKeys false c i false noEntry h) (column-at shownIn mostKeys emptyList c i past noEntry h) rest
       ∙ set-there f (f .shown) (shownSets (drop (i + 1) c)) (entry-rules f .0 (entry-at c (table-rules c .0 m .entries) i h) .shown)
       ∙ sym (ap shownSets here)
 
   pub sets-stored : setsIn (storeSets c) ≡ shownSets c
   unfolding setsIn storeSets
-  sets-stored = sets-after (min (length c) 32) 0 (omega (arith, table-rules c .0 m .short))
+  sets-stored = sets-after (min (length c) mostKeys) 0 (omega (arith, table-rules c .0 m .short))

@@ -5,7 +5,7 @@ use mathlib.Core.Bool.{Bool, false, cond}
 use mathlib.Core.List.{List, [], _∷_}
 use lib.ListN.{getD}
 use lib.Dec.{eqb}
-use Rattle.rules.specs.Collecting.{IdSet, Shown}
+use Rattle.rules.specs.Collecting.{IdSet, Shown, mostKeys}
 use Rattle.lists.specs.declared.IdList.{IdList}
 use Rattle.lists.specs.Stored.{pairsIn}
 use Rattle.sets.specs.declared.Sets.{Sets}
@@ -30,4 +30,4 @@ setsFrom t i (suc n) = ifShown (getD (t .keys) i 0) (getD (t .on) i false) (getD
 
 -- of all the entries, of which there are 32 at most
 unfoldable pub setsIn : Sets → List Shown
-setsIn t = setsFrom t 0 (min (t .count) 32)
+setsIn t = setsFrom t 0 (min (t .count) mostKeys)

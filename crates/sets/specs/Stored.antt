@@ -5,14 +5,13 @@ use mathlib.Core.Bool.{Bool, true, false, cond, _&&_}
 use mathlib.Core.List.{List, [], map}
 use lib.ListN.{length, getD}
 use lib.Dec.{ltb}
-use Rattle.rules.specs.Arrays.{padded}
-use Rattle.rules.specs.Collecting.{Held, Entries, setsMeet}
+use Rattle.rules.specs.Arrays.{padded, opened, shut}
+use Rattle.rules.specs.Collecting.{Held, Entries, setsMeet, mostKeys}
 use Rattle.lists.specs.declared.IdList.{IdList}
 use Rattle.lists.specs.Stored.{emptyList, storeMaybe, Holds}
 use Rattle.sets.specs.declared.Sets.{Sets}
-use Rattle.sets.specs.Places.{opened, shut}
 
-unfoldable pub keyIn : Held → ℕ
+abbrev pub keyIn : Held → ℕ
 keyIn e = e .key
 
 unfoldable pub onIn : Held → Bool
@@ -29,11 +28,18 @@ unfoldable pub storeSets : Entries → Sets
 storeSets c =
     record {
       count = length c;
-      keys = padded 32 0 (map keyIn c);
-      on = padded 32 false (map onIn c);
-      shown = padded 32 emptyList (map shownIn c);
-      draft = padded 32 emptyList (map draftIn c);
+      keys = padded mostKeys 0 (map keyIn c);
+      on = padded mostKeys false (map onIn c);
+      shown = padded mostKeys emptyList (map shownIn c);
+      draft = padded mostKeys emptyList (map draftIn c);
     }
+
+-- sets with other states and lists, and with other open lists alone: the keys, and whatever else there is, stay
+abbrev pub withLists : Sets → List Bool → List IdList → List IdList → Sets
+withLists t on shown draft = record { count = t .count; keys = t .keys; on = on; shown = shown; draft = draft }
+
+abbrev pub withDraft : Sets → List IdList → Sets
+withDraft t draft = withLists t (t .on) (t .shown) draft
 
 -- what stands for a list past the end of an array
 abbrev pub past : IdList
@@ -41,16 +47,16 @@ past = record { numbers = []; kinds = []; len = 0; named = 0 }
 
 -- each of the first 32 lists is the stored form of one for its key, or of none
 unfoldable pub EachHolds : List ℕ → List IdList → Type 0
-EachHolds keys ls = (i : ℕ) → i < 32 → Holds (getD keys i 0) (getD ls i past)
+EachHolds keys ls = (i : ℕ) → i < mostKeys → Holds (getD keys i 0) (getD ls i past)
 
 -- there is no list from a place on
 unfoldable pub NoneFrom : ℕ → List IdList → Type 0
-NoneFrom from ls = (i : ℕ) → i < 32 → from ≤ i → getD ls i past .len ≡ 0
+NoneFrom from ls = (i : ℕ) → i < mostKeys → from ≤ i → getD ls i past .len ≡ 0
 
 -- sets with one key more at a place, its list open and no set shown; the same where there is no such place
 unfoldable pub openedSets : Sets → ℕ → ℕ → Bool → IdList → Sets
 openedSets t at key on l =
-    cond (ltb at 32 && ltb (t .count) 32)
+    cond (ltb at mostKeys && ltb (t .count) mostKeys)
     (record {
       count = t .count + 1;
       keys = opened at key (t .keys);
@@ -63,7 +69,7 @@ openedSets t at key on l =
 -- sets with one key less, the one at a place; the same where no key stands there
 unfoldable pub shutSets : Sets → ℕ → Sets
 shutSets t at =
-    cond (ltb at 32 && ltb at (t .count))
+    cond (ltb at mostKeys && ltb at (t .count))
     (record {
       count = t .count - 1;
       keys = shut at 0 (t .keys);

@@ -3,13 +3,15 @@
 // storeSets of specs/Stored.antt; what sets may hold is `setsMeet` of crate rules.
 
 ghost use mathlib.Core.Path.{_≡_};
-ghost use mathlib.Core.Bool.{Bool, false};
+ghost use mathlib.Core.Bool.{false};
 ghost use mathlib.Core.List.{[]};
 ghost use lib.ListN.{length, take, drop};
 ghost use Prim.Native.Nat.{_<_};
+ghost use Rattle.rules.specs.Arrays.{opened, shut};
+ghost use Rattle.rules.specs.Collecting.{mostKeys};
 ghost use Rattle.lists.specs.Stored.{Tested, emptyList};
 ghost use Rattle.sets.specs.Stored.{storeSets, EachHolds, NoneFrom, SetsStored, openedSets, shutSets};
-ghost use Rattle.sets.specs.Places.{placeIn, standsAt, keysMeet, allOff, opened, shut};
+ghost use Rattle.sets.specs.Places.{placeIn, standsAt, keysMeet, allOff};
 ghost use Rattle.sets.specs.Shown.{setsIn};
 use lists::IdList;
 
@@ -44,7 +46,7 @@ impl Sets {
 
 // ---- the test of the table rules
 
-// Whether keys ascend, lie below 65,536 and have LSN not 0, among the first `count`.
+// Whether the first `count` numbers are keys, and ascend.
 fn keys_meet(keys: &[u32], count: usize) -> bool
     ensures { λ r. ⌜ r ≡ keysMeet 0 (take count (now (keys .entry))) ⌝ }
 {
@@ -56,10 +58,7 @@ fn keys_meet(keys: &[u32], count: usize) -> bool
         if key <= last {
             return false;
         }
-        if 65536 <= key {
-            return false;
-        }
-        if key % 4096 == 0 {
+        if !lists::is_key(key) {
             return false;
         }
         last = key;
@@ -179,7 +178,7 @@ pub fn stands_at(keys: &[u32], count: usize, at: usize, key: u32) -> bool
 // ---- an array with one value more or one less; of each, one for every type of value
 
 fn open_u32(xs: [u32; Sets::KEYS], at: usize, v: u32) -> [u32; Sets::KEYS]
-    requires { ⌜ at < 32 ⌝ }
+    requires { ⌜ at < mostKeys ⌝ }
     ensures { λ r. ⌜ r ≡ opened at v xs ⌝ }
 {
     let mut ys = xs;
@@ -193,7 +192,7 @@ fn open_u32(xs: [u32; Sets::KEYS], at: usize, v: u32) -> [u32; Sets::KEYS]
 }
 
 fn open_flag(xs: [bool; Sets::KEYS], at: usize, v: bool) -> [bool; Sets::KEYS]
-    requires { ⌜ at < 32 ⌝ }
+    requires { ⌜ at < mostKeys ⌝ }
     ensures { λ r. ⌜ r ≡ opened at v xs ⌝ }
 {
     let mut ys = xs;
@@ -207,7 +206,7 @@ fn open_flag(xs: [bool; Sets::KEYS], at: usize, v: bool) -> [bool; Sets::KEYS]
 }
 
 fn open_list(xs: [IdList; Sets::KEYS], at: usize, v: IdList) -> [IdList; Sets::KEYS]
-    requires { ⌜ at < 32 ⌝ }
+    requires { ⌜ at < mostKeys ⌝ }
     ensures { λ r. ⌜ r ≡ opened at v xs ⌝ }
 {
     let mut ys = xs;
@@ -222,7 +221,7 @@ fn open_list(xs: [IdList; Sets::KEYS], at: usize, v: IdList) -> [IdList; Sets::K
 }
 
 fn shut_u32(xs: [u32; Sets::KEYS], at: usize) -> [u32; Sets::KEYS]
-    requires { ⌜ at < 32 ⌝ }
+    requires { ⌜ at < mostKeys ⌝ }
     ensures { λ r. ⌜ r ≡ shut at 0 xs ⌝ }
 {
     let mut ys = xs;
@@ -236,7 +235,7 @@ fn shut_u32(xs: [u32; Sets::KEYS], at: usize) -> [u32; Sets::KEYS]
 }
 
 fn shut_flag(xs: [bool; Sets::KEYS], at: usize) -> [bool; Sets::KEYS]
-    requires { ⌜ at < 32 ⌝ }
+    requires { ⌜ at < mostKeys ⌝ }
     ensures { λ r. ⌜ r ≡ shut at false xs ⌝ }
 {
     let mut ys = xs;
@@ -250,7 +249,7 @@ fn shut_flag(xs: [bool; Sets::KEYS], at: usize) -> [bool; Sets::KEYS]
 }
 
 fn shut_list(xs: [IdList; Sets::KEYS], at: usize) -> [IdList; Sets::KEYS]
-    requires { ⌜ at < 32 ⌝ }
+    requires { ⌜ at < mostKeys ⌝ }
     ensures { λ r. ⌜ r ≡ shut at emptyList xs ⌝ }
 {
     let mut ys = xs;

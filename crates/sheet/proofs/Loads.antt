@@ -8,7 +8,7 @@ use lib.ListN.{length}
 use lib.Dec.{leb}
 use borrow.Author.Tests.{leb-true, eq-eqb, ne-eqb}
 use Rattle.rules.specs.declared.Outcome.the-variants.{Done}
-use Rattle.rules.specs.Collecting.{Entries, Content, nothing, justSets}
+use Rattle.rules.specs.Collecting.{Entries, Content, nothing, justSets, mostKeys}
 use Rattle.rules.proofs.Basics.{true-false}
 use Rattle.layout.proofs.Standing.{Bytes}
 use Rattle.layout.specs.Parse.{Read, readIf, readSets, parseSheet}
@@ -57,14 +57,14 @@ sets-some (some x) r e t =
     }
 
 module _ (bytes : List ℕ) (byte : Bytes bytes) where
-  pub load-no-count : (r : Loaded) → r ≡ notLoaded → number.Wrong ≡ numberAs (readIf (λ n. leb n 32) bytes 0) → Loads bytes r
+  pub load-no-count : (r : Loaded) → r ≡ notLoaded → number.Wrong ≡ numberAs (readIf (λ n. leb n mostKeys) bytes 0) → Loads bytes r
   unfolding parseSheet loadedAs
   load-no-count r e n = loads-by bytes byte none r (then-none _ (number-none _ n)) e
 
-  module _ (count place : ℕ) (n : number.At count place ≡ numberAs (readIf (λ n. leb n 32) bytes 0)) where
+  module _ (count place : ℕ) (n : number.At count place ≡ numberAs (readIf (λ n. leb n mostKeys) bytes 0)) where
     -- a count that passes is at most 32
-    pub load-count : count ≤ 32
-    load-count = leb-true count 32 (if-true (λ n. leb n 32) bytes 0 count place n)
+    pub load-count : count ≤ mostKeys
+    load-count = leb-true count mostKeys (if-true (λ n. leb n mostKeys) bytes 0 count place n)
 
     module _ (s : ReadSets) (l : s ≡ setsAs (readSets count 0 [] bytes place)) where
       pub load-no-sets : (r : Loaded) → r ≡ notLoaded → s .ok ≡ false → Loads bytes r

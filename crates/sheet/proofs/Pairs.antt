@@ -9,7 +9,7 @@ use lib.ListN.{length, set, length-append, length-map}
 use lib.Dec.{eqb}
 use Rattle.rules.specs.Arrays.{padded}
 use Rattle.rules.specs.Field.{Pair, pair, numberIn, kindIn}
-use Rattle.rules.specs.Collecting.{keyWidth, mayBegin, kindNamed}
+use Rattle.rules.specs.Collecting.{keyWidth, mayBegin, kindNamed, mostIds}
 use Rattle.rules.proofs.Basics.{and-left}
 use Rattle.layout.specs.Parse.{readIf, kindFits, numberFits, readPair, readPairs}
 use Rattle.layout.proofs.ParseLaws.{then-go, then-none, pairs-turn, pairs-end}
@@ -67,12 +67,12 @@ module _ (key named : ℕ) (kinds numbers : List ℕ) (len : ℕ) (bytes : List 
 pub record Gathered (key named count : ℕ) (bytes : List ℕ) (at : ℕ) (numbers kinds : List ℕ) (place i : ℕ) : Type 0 where
   pub read : List Pair
   pub many : length read ≡ i
-  pub numbers-are : numbers ≡ padded 128 0 (map numberIn read)
-  pub kinds-are : kinds ≡ padded 128 0 (map kindIn read)
+  pub numbers-are : numbers ≡ padded mostIds 0 (map numberIn read)
+  pub kinds-are : kinds ≡ padded mostIds 0 (map kindIn read)
   pub rest : readPairs (count - i) key named read bytes place ≡ readPairs count key named [] bytes at
 
 module _ (key named count : ℕ) (bytes : List ℕ) (at : ℕ) where
-  pub list-start : Gathered key named count bytes at (padded 128 0 []) (padded 128 0 []) at 0
+  pub list-start : Gathered key named count bytes at (padded mostIds 0 []) (padded mostIds 0 []) at 0
   list-start =
       let e : count - 0 ≡ count = omega arith in
       record {
@@ -84,10 +84,10 @@ module _ (key named count : ℕ) (bytes : List ℕ) (at : ℕ) where
       }
 
   module _ (numbers kinds : List ℕ) (place i : ℕ) (g : Gathered key named count bytes at numbers kinds place i) where
-    pub list-long : i ≤ 128 → (length numbers ≡ 128) × (length kinds ≡ 128)
+    pub list-long : i ≤ mostIds → (length numbers ≡ mostIds) × (length kinds ≡ mostIds)
     list-long h = (
-      ap length (g .numbers-are) ∙ length-padded 128 0 (map numberIn (g .read)) (omega (arith, g .many, length-map (g .read) numberIn)),
-      ap length (g .kinds-are) ∙ length-padded 128 0 (map kindIn (g .read)) (omega (arith, g .many, length-map (g .read) kindIn)),
+      ap length (g .numbers-are) ∙ length-padded mostIds 0 (map numberIn (g .read)) (omega (arith, g .many, length-map (g .read) numberIn)),
+      ap length (g .kinds-are) ∙ length-padded mostIds 0 (map kindIn (g .read)) (omega (arith, g .many, length-map (g .read) kindIn)),
     )
 
     -- those that were read are those that stand in the arrays
@@ -95,8 +95,8 @@ module _ (key named count : ℕ) (bytes : List ℕ) (at : ℕ) where
     unfolding storeList
     list-here =
         ap (λ (ks : List ℕ). pairsIn ks numbers i) (g .kinds-are)
-        ∙ ap (λ (ns : List ℕ). pairsIn (padded 128 0 (map kindIn (g .read))) ns i) (g .numbers-are)
-        ∙ ap (pairsIn (padded 128 0 (map kindIn (g .read))) (padded 128 0 (map numberIn (g .read)))) (sym (g .many))
+        ∙ ap (λ (ns : List ℕ). pairsIn (padded mostIds 0 (map kindIn (g .read))) ns i) (g .numbers-are)
+        ∙ ap (pairsIn (padded mostIds 0 (map kindIn (g .read))) (padded mostIds 0 (map numberIn (g .read)))) (sym (g .many))
         ∙ pairs-in-store (record { items = g .read; named = named })
 
     abbrev Reads : ReadPair → Type 0
@@ -108,7 +108,7 @@ module _ (key named count : ℕ) (bytes : List ℕ) (at : ℕ) where
         let e : readPair key named (g .read) bytes place ≡ none = sym (rw list-here at r) in
         ap (listAs named) (sym (then-none _ e) ∙ sym (pairs-turn count i key named (g .read) bytes place h) ∙ g .rest)
 
-    pub list-next : (k n next : ℕ) → i < count → count ≤ 128 → Reads (item.At k n next)
+    pub list-next : (k n next : ℕ) → i < count → count ≤ mostIds → Reads (item.At k n next)
         → Gathered key named count bytes at (set numbers i n) (set kinds i k) next (i + 1)
     unfolding pairRead numberIn kindIn pair
     list-next k n next h few r =
@@ -117,8 +117,8 @@ module _ (key named count : ℕ) (bytes : List ℕ) (at : ℕ) where
         record {
           read = more;
           many = omega (arith, length-append (g .read) (pair k n ∷ []), g .many);
-          numbers-are = set-column numberIn 128 i 0 (g .read) (pair k n) (g .numbers-are) refl (g .many) (omega arith);
-          kinds-are = set-column kindIn 128 i 0 (g .read) (pair k n) (g .kinds-are) refl (g .many) (omega arith);
+          numbers-are = set-column numberIn mostIds i 0 (g .read) (pair k n) (g .numbers-are) refl (g .many) (omega arith);
+          kinds-are = set-column kindIn mostIds i 0 (g .read) (pair k n) (g .kinds-are) refl (g .many) (omega arith);
           rest = sym (then-go _ _ e) ∙ sym (pairs-turn count i key named (g .read) bytes place h) ∙ g .rest;
         }
 

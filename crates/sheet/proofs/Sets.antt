@@ -8,7 +8,7 @@ use mathlib.Core.Option.{Option, none, some}
 use lib.ListN.{length, set, length-append, length-map}
 use Rattle.rules.specs.Arrays.{padded}
 use Rattle.rules.specs.Field.{Pair}
-use Rattle.rules.specs.Collecting.{Entries, Shown}
+use Rattle.rules.specs.Collecting.{Entries, Shown, mostKeys, mostIds}
 use Rattle.layout.specs.Sheet.{alone}
 use Rattle.rules.proofs.Basics.{true-false, map-append}
 use Rattle.layout.proofs.Standing.{Bytes}
@@ -74,7 +74,7 @@ module _ (last : ℕ) (bytes : List ℕ) (at : ℕ) where
 
   module _ (h : SetHead) (place : ℕ) (e : head.At h place ≡ headAs (readHead last bytes at)) where
     -- a count that passes is at most 128
-    pub set-count : Bytes bytes → h .count ≤ 128
+    pub set-count : Bytes bytes → h .count ≤ mostIds
     set-count byte = count-rules (h .count) (head-read last bytes at _ byte (head-some _ h place e) .0 .count) .1
 
     module _ (r : ReadList) (l : r ≡ listAs (h .named) (readPairs (h .count) (h .key) (h .named) [] bytes place)) where
@@ -123,15 +123,15 @@ set-some (some x) r e t =
 pub record Filled (count : ℕ) (bytes : List ℕ) (at : ℕ) (draft : List IdList) (keys : List ℕ) (on : List Bool) (shown : List IdList) (last place i : ℕ) : Type 0 where
   pub read : Entries
   pub many : length read ≡ i
-  pub keys-are : keys ≡ padded 32 0 (map keyIn read)
-  pub on-are : on ≡ padded 32 false (map onIn read)
-  pub shown-are : shown ≡ padded 32 emptyList (map shownIn read)
-  pub draft-are : draft ≡ padded 32 emptyList (map draftIn read)
+  pub keys-are : keys ≡ padded mostKeys 0 (map keyIn read)
+  pub on-are : on ≡ padded mostKeys false (map onIn read)
+  pub shown-are : shown ≡ padded mostKeys emptyList (map shownIn read)
+  pub draft-are : draft ≡ padded mostKeys emptyList (map draftIn read)
   pub rest : readSets (count - i) last read bytes place ≡ readSets count 0 [] bytes at
 
 module _ (count : ℕ) (bytes : List ℕ) (at : ℕ) where
   pub sets-start : (l : IdList) → l ≡ emptyList
-      → Filled count bytes at (padded 32 l []) (padded 32 0 []) (padded 32 false []) (padded 32 l []) 0 at 0
+      → Filled count bytes at (padded mostKeys l []) (padded mostKeys 0 []) (padded mostKeys false []) (padded mostKeys l []) 0 at 0
   sets-start l e =
       let z : count - 0 ≡ count = omega arith in
       record {
@@ -139,8 +139,8 @@ module _ (count : ℕ) (bytes : List ℕ) (at : ℕ) where
         many = refl;
         keys-are = refl;
         on-are = refl;
-        shown-are = ap (λ (x : IdList). padded 32 x []) e;
-        draft-are = ap (λ (x : IdList). padded 32 x []) e;
+        shown-are = ap (λ (x : IdList). padded mostKeys x []) e;
+        draft-are = ap (λ (x : IdList). padded mostKeys x []) e;
         rest = ap (λ (n : ℕ). readSets n 0 [] bytes at) z;
       }
 
@@ -151,22 +151,22 @@ module _ (count : ℕ) (bytes : List ℕ) (at : ℕ) where
     sets-wrong r h e f =
         ap setsAs (sym (then-none _ (set-none _ r e f)) ∙ sym (sets-turn count i last (g .read) bytes place h) ∙ g .rest)
 
-    pub sets-next : (r : ReadSet) → i < count → count ≤ 32 → r ≡ setAs (readSet last bytes place) → r .ok ≡ true
+    pub sets-next : (r : ReadSet) → i < count → count ≤ mostKeys → r ≡ setAs (readSet last bytes place) → r .ok ≡ true
         → Filled count bytes at draft (set keys i (r .key)) (set on i (r .on)) (set shown i (r .list)) (r .key) (r .next) (i + 1)
-    unfolding keyIn onIn shownIn draftIn storeMaybe alone
+    unfolding onIn shownIn draftIn storeMaybe alone
     sets-next r h few e t =
         let m = set-some _ r e t in
         let s = m .value in
         record {
           read = g .read ++ alone s ∷ [];
           many = omega (arith, length-append (g .read) (alone s ∷ []), g .many);
-          keys-are = set-column keyIn 32 i 0 (g .read) (alone s) (g .keys-are) (m .key-is) (g .many) (omega arith);
-          on-are = set-column onIn 32 i false (g .read) (alone s) (g .on-are) (m .on-is) (g .many) (omega arith);
-          shown-are = set-column shownIn 32 i emptyList (g .read) (alone s) (g .shown-are) (m .list-is) (g .many) (omega arith);
+          keys-are = set-column keyIn mostKeys i 0 (g .read) (alone s) (g .keys-are) (m .key-is) (g .many) (omega arith);
+          on-are = set-column onIn mostKeys i false (g .read) (alone s) (g .on-are) (m .on-is) (g .many) (omega arith);
+          shown-are = set-column shownIn mostKeys i emptyList (g .read) (alone s) (g .shown-are) (m .list-is) (g .many) (omega arith);
           draft-are =
               g .draft-are
-              ∙ sym (padded-default 32 emptyList (map draftIn (g .read)) (omega (arith, length-map (g .read) draftIn, g .many)))
-              ∙ ap (padded 32 emptyList) (sym (map-append draftIn (g .read) (alone s ∷ [])));
+              ∙ sym (padded-default mostKeys emptyList (map draftIn (g .read)) (omega (arith, length-map (g .read) draftIn, g .many)))
+              ∙ ap (padded mostKeys emptyList) (sym (map-append draftIn (g .read) (alone s ∷ [])));
           rest =
               ap (λ (k : ℕ). readSets (count - (i + 1)) k (g .read ++ alone s ∷ []) bytes (r .next)) (m .key-is)
               ∙ sym (then-go _ _ (m .there)) ∙ sym (sets-turn count i last (g .read) bytes place h) ∙ g .rest;

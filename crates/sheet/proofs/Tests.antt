@@ -7,10 +7,10 @@ use mathlib.Core.Bool.{Bool, true, false, not, cond, _&&_, _||_, or-false, or-tr
 use mathlib.Core.List.{List}
 use mathlib.Core.Option.{Option, none, some}
 use lib.Dec.{ltb, eqb}
-use borrow.Author.Tests.{eq-eqb, ne-eqb, lt-ltb, le-ltb, le-leb, lt-leb}
+use borrow.Author.Tests.{ne-eqb, lt-ltb, le-ltb, le-leb, lt-leb}
 use Rattle.rules.specs.Field.{Pair, pair}
 use Rattle.rules.specs.Family.{member}
-use Rattle.rules.specs.Collecting.{linkage, mayBegin, kindNamed, namesMeet}
+use Rattle.rules.specs.Collecting.{linkage, isKey, mayBegin, kindNamed, namesMeet, mostIds}
 use Rattle.rules.proofs.Basics.{cases-bool, never-true}
 use Rattle.layout.specs.Parse.{Read, readNumber, readIf, numberFits, keyFits, countFits}
 use Rattle.layout.proofs.ParseLaws.{then-some, then-go, then-none, cond-some}
@@ -69,17 +69,9 @@ module _ (last key : ℕ) where
   unfolding keyFits
   key-before h = rw (le-ltb last key h)
 
-  pub key-large : last < key → 65536 ≤ key → keyFits last key ≡ false
+  pub key-after : last < key → keyFits last key ≡ isKey key
   unfolding keyFits
-  key-large a h = rw (lt-ltb last key a, le-ltb key 65536 h)
-
-  pub key-unnumbered : last < key → key < 65536 → key % 4096 ≡ 0 → keyFits last key ≡ false
-  unfolding keyFits
-  key-unnumbered a b h = rw (lt-ltb last key a, lt-ltb key 65536 b, eq-eqb (key % 4096) 0 h)
-
-  pub key-passes : last < key → key < 65536 → (key % 4096 ≡ 0 → ⊥) → keyFits last key ≡ true
-  unfolding keyFits
-  key-passes a b h = rw (lt-ltb last key a, lt-ltb key 65536 b, ne-eqb (key % 4096) 0 h)
+  key-after a = rw (lt-ltb last key a)
 
 pub names-large : (key named : ℕ) → 4 ≤ named → namesMeet key named ≡ false
 unfolding namesMeet
@@ -93,13 +85,13 @@ module _ (count : ℕ) where
   unfolding countFits
   count-none h = rw (lt-leb 1 count h)
 
-  pub count-large : 1 ≤ count → 128 < count → countFits count ≡ false
+  pub count-large : 1 ≤ count → mostIds < count → countFits count ≡ false
   unfolding countFits
-  count-large a h = rw (le-leb 1 count a, lt-leb count 128 h)
+  count-large a h = rw (le-leb 1 count a, lt-leb count mostIds h)
 
-  pub count-passes : 1 ≤ count → count ≤ 128 → countFits count ≡ true
+  pub count-passes : 1 ≤ count → count ≤ mostIds → countFits count ≡ true
   unfolding countFits
-  count-passes a h = rw (le-leb 1 count a, le-leb count 128 h)
+  count-passes a h = rw (le-leb 1 count a, le-leb count mostIds h)
 
 -- a kind of the next identifier, or of the first
 abbrev pub kindTest : ℕ → ℕ → Bool → ℕ → Bool

@@ -9,7 +9,7 @@ use mathlib.Core.List.{List, [], _∷_, _++_, append-assoc}
 use lib.ListN.{length, getD, drop, length-append}
 use Rattle.rules.specs.Block.{bit}
 use Rattle.rules.specs.Field.{Pair, pair}
-use Rattle.rules.specs.Collecting.{Content, Shown, meets, shownSets}
+use Rattle.rules.specs.Collecting.{Content, Shown, meets, shownSets, mostKeys, mostIds}
 use Rattle.layout.specs.Sheet.{sheetNumber, sheetPairs, sheetSet, sheetSets, sheet}
 use Rattle.layout.proofs.Laws.{shown-entries, sets-most}
 use Rattle.rules.proofs.TableRules.{table-rules, shown-few}
@@ -41,7 +41,7 @@ pairs-short (p ∷ ps) =
 abbrev pub pairsOf : IdList → List Pair
 pairsOf list = pairsIn (list .kinds) (list .numbers) (list .len)
 
-module _ (list : IdList) (kinds-long : length (list .kinds) ≡ 128) (numbers-long : length (list .numbers) ≡ 128) (short : list .len ≤ 128) where
+module _ (list : IdList) (kinds-long : length (list .kinds) ≡ mostIds) (numbers-long : length (list .numbers) ≡ mostIds) (short : list .len ≤ mostIds) where
   pub pairs-many : length (pairsOf list) ≡ list .len
   pairs-many = length-pairs-in (list .kinds) (list .numbers) (list .len) ∙ omega arith
 
@@ -90,10 +90,10 @@ module _ (t : Sets) (i n : ℕ) where
 
 -- ---- stored sets
 
-pub count-short : (t : Sets) → SetsStored t → t .count ≤ 32
+pub count-short : (t : Sets) → SetsStored t → t .count ≤ mostKeys
 count-short t s = stored-facts t s .short
 
-pub list-short : (t : Sets) (i : ℕ) → SetsStored t → i < t .count → getD (t .shown) i past .len ≤ 128
+pub list-short : (t : Sets) (i : ℕ) → SetsStored t → i < t .count → getD (t .shown) i past .len ≤ mostIds
 unfolding EachHolds
 list-short t i s h = holds-facts (getD (t .keys) i 0) _ (stored-facts t s .shown-hold i (omega (arith, count-short t s))) .short
 

@@ -9,7 +9,7 @@ ghost use Prim.Native.Nat.{_≤_};
 ghost use lib.Dec.{eqb, leb, ltb};
 ghost use lib.ListN.{length};
 ghost use Rattle.rules.specs.Block.{bit};
-ghost use Rattle.rules.specs.Collecting.{keyWidth, mayBegin, kindNamed, namesMeet};
+ghost use Rattle.rules.specs.Collecting.{keyWidth, mayBegin, kindNamed, namesMeet, mostKeys, mostIds};
 ghost use Rattle.layout.specs.Sheet.{sheetNumber, sheetPairs, sheetSet, sheetSets, sheet};
 ghost use Rattle.layout.specs.Parse.{readNumber, readIf, numberFits, readPair, readPairs, keyFits, countFits, readHead, readSet, readSets};
 ghost use Rattle.lists.specs.Stored.{pairsIn};
@@ -21,7 +21,6 @@ ghost use Rattle.sheet.specs.Reading.{numberAs, pairRead, noList, listAs
 ghost use Rattle.sheet.specs.Loading.{notLoaded, Loads};
 use lists::IdList;
 use out::Written;
-use out::cut_to;
 use out::put;
 use rules::Outcome;
 use sets::Sets;
@@ -53,7 +52,7 @@ fn number_size(n: u32) -> usize
 fn put_number(out: &mut [u8], at: usize, n: u32) -> usize
     ensures { λ r. ⌜ Puts (now (out .entry)) at (sheetNumber n) (now (out .exit)) r ⌝ }
 {
-    let mut p = cut_to(at, out.len());
+    let mut p = lists::least(at, out.len());
     let mut q = n;
     while 128 <= q {
         p = put(out, p, (q % 128 + 128) as u8);
@@ -64,7 +63,7 @@ fn put_number(out: &mut [u8], at: usize, n: u32) -> usize
 
 // How many bytes a list's identifiers take.
 fn pairs_size(list: IdList) -> usize
-    requires { ⌜ list .len ≤ 128 ⌝ }
+    requires { ⌜ list .len ≤ mostIds ⌝ }
     ensures { λ r. ⌜ r ≡ length (sheetPairs (pairsIn (list .kinds) (list .numbers) (list .len))) ⌝ }
 {
     let len = list.len;
@@ -79,11 +78,11 @@ fn pairs_size(list: IdList) -> usize
 
 // A list's identifiers at a place, and the place after them.
 fn put_pairs(out: &mut [u8], at: usize, list: IdList) -> usize
-    requires { ⌜ list .len ≤ 128 ⌝ }
+    requires { ⌜ list .len ≤ mostIds ⌝ }
     ensures { λ r. ⌜ Puts (now (out .entry)) at (sheetPairs (pairsIn (list .kinds) (list .numbers) (list .len))) (now (out .exit)) r ⌝ }
 {
     let len = list.len;
-    let mut p = cut_to(at, out.len());
+    let mut p = lists::least(at, out.len());
     let mut i = 0;
     while i < len {
         p = put_number(out, p, list.kinds[i] as u32);
@@ -95,7 +94,7 @@ fn put_pairs(out: &mut [u8], at: usize, list: IdList) -> usize
 
 // How many bytes a set takes.
 fn set_size(key: u32, on: bool, list: IdList) -> usize
-    requires { ⌜ list .len ≤ 128 ⌝ }
+    requires { ⌜ list .len ≤ mostIds ⌝ }
     ensures { λ r. ⌜ r ≡ length (sheetSet (shownAs key on list)) ⌝ }
 {
     let state = number_size(bit_of(on));
@@ -106,7 +105,7 @@ fn set_size(key: u32, on: bool, list: IdList) -> usize
 
 // A set at a place, and the place after it.
 fn put_set(out: &mut [u8], at: usize, key: u32, on: bool, list: IdList) -> usize
-    requires { ⌜ list .len ≤ 128 ⌝ }
+    requires { ⌜ list .len ≤ mostIds ⌝ }
     ensures { λ r. ⌜ Puts (now (out .entry)) at (sheetSet (shownAs key on list)) (now (out .exit)) r ⌝ }
 {
     let named = list.named as u32;
@@ -142,7 +141,7 @@ fn put_sets(out: &mut [u8], at: usize, sets: Sets) -> usize
     ensures { λ r. ⌜ Puts (now (out .entry)) at (sheetSets (setsIn sets)) (now (out .exit)) r ⌝ }
 {
     let count = sets.count;
-    let mut p = cut_to(at, out.len());
+    let mut p = lists::least(at, out.len());
     let mut i = 0;
     while i < count {
         let list = sets.shown[i];
@@ -298,10 +297,7 @@ fn read_key(last: u32, bytes: &[u8], at: usize) -> ReadNumber
             if key <= last {
                 return ReadNumber::Wrong;
             }
-            if 65536 <= key {
-                return ReadNumber::Wrong;
-            }
-            if key % 4096 == 0 {
+            if !lists::is_key(key) {
                 return ReadNumber::Wrong;
             }
             ReadNumber::At(key, next)
@@ -338,7 +334,7 @@ fn read_count(bytes: &[u8], at: usize) -> ReadNumber
             if count < 1 {
                 return ReadNumber::Wrong;
             }
-            if 128 < count {
+            if IdList::MOST < count as usize {
                 return ReadNumber::Wrong;
             }
             ReadNumber::At(count, next)
@@ -460,11 +456,11 @@ fn no_list() -> ReadList
 
 // The list of this many identifiers.
 fn read_list(key: u32, named: u8, count: usize, bytes: &[u8], at: usize) -> ReadList
-    requires { ⌜ count ≤ 128 ⌝ }
+    requires { ⌜ count ≤ mostIds ⌝ }
     ensures { λ r. ⌜ r ≡ listAs named (readPairs count key named [] (now (bytes .entry)) at) ⌝ }
 {
-    let mut numbers = [0u32; 128];
-    let mut kinds = [0u8; 128];
+    let mut numbers = [0u32; IdList::MOST];
+    let mut kinds = [0u8; IdList::MOST];
     let mut place = at;
     let mut i = 0;
     while i < count {
@@ -538,14 +534,14 @@ fn no_sets() -> ReadSets
 
 // This many sets, in ascending key order.
 fn read_sets(count: usize, bytes: &[u8], at: usize) -> ReadSets
-    requires { ⌜ count ≤ 32 ⌝ }
+    requires { ⌜ count ≤ mostKeys ⌝ }
     ensures { λ r. ⌜ r ≡ setsAs (readSets count 0 [] (now (bytes .entry)) at) ⌝ }
 {
     let none = IdList::empty();
-    let draft = [none; 32];
-    let mut keys = [0u32; 32];
-    let mut on = [false; 32];
-    let mut shown = [none; 32];
+    let draft = [none; Sets::KEYS];
+    let mut keys = [0u32; Sets::KEYS];
+    let mut on = [false; Sets::KEYS];
+    let mut shown = [none; Sets::KEYS];
     let mut last = 0u32;
     let mut place = at;
     let mut i = 0;
@@ -597,7 +593,7 @@ fn not_a_sheet() -> Loaded
 pub fn load_sheet(bytes: &[u8]) -> Loaded
     ensures { λ r. ⌜ Loads (now (bytes .entry)) r ⌝ }
 {
-    let ReadNumber::At(count, place) = read_at_most(32, bytes, 0) else {
+    let ReadNumber::At(count, place) = read_at_most(Sets::KEYS as u32, bytes, 0) else {
         return not_a_sheet();
     };
     let read = read_sets(count as usize, bytes, place);

@@ -12,12 +12,12 @@ use borrow.Author.Tests.{ne-eqb}
 use Rattle.rules.specs.Arrays.{padded}
 use Rattle.rules.specs.declared.Outcome.the-variants.{Done, ShortBuffer}
 use Rattle.rules.specs.Field.{numberIn, kindIn}
-use Rattle.rules.specs.Collecting.{IdSet, Held, ifThere}
+use Rattle.rules.specs.Collecting.{IdSet, Held, ifThere, mostIds}
 use Rattle.rules.specs.Outcomes.{overwritten, notCopied, copySet}
 use Rattle.rules.proofs.Arrays.{take-padded}
 use Rattle.lists.specs.Stored.{storeList, emptyList, storeMaybe}
 use Rattle.lists.proofs.StoredLaws.{stored-some}
-use Rattle.sets.proofs.Shifts.{blend, blend-step}
+use Rattle.rules.proofs.Shifts.{blend, blend-step}
 use Rattle.table.specs.Answers.{copyStored}
 
 module _ (n : ℕ) (from to : List ℕ) (hf : n ≤ length from) (ht : n ≤ length to) where
@@ -62,10 +62,10 @@ unfolding copyStored copySet storeMaybe storeList emptyList
 copy-stored key e none ns ks m = refl
 copy-stored key e (some l) ns ks m =
     let n = length (l .items) in
-    let a : take n (padded 128 0 (map numberIn (l .items))) ≡ map numberIn (l .items) =
-    take-padded 128 0 (map numberIn (l .items)) n (length-map (l .items) numberIn) in
-    let b : take n (padded 128 0 (map kindIn (l .items))) ≡ map kindIn (l .items) =
-    take-padded 128 0 (map kindIn (l .items)) n (length-map (l .items) kindIn) in
+    let a : take n (padded mostIds 0 (map numberIn (l .items))) ≡ map numberIn (l .items) =
+    take-padded mostIds 0 (map numberIn (l .items)) n (length-map (l .items) numberIn) in
+    let b : take n (padded mostIds 0 (map kindIn (l .items))) ≡ map kindIn (l .items) =
+    take-padded mostIds 0 (map kindIn (l .items)) n (length-map (l .items) kindIn) in
     rw (ne-eqb n 0 (stored-some key l m))
     (λ i. cond (ltb (length ns) n || ltb (length ks) n) (notCopied ShortBuffer ns ks)
     (record {

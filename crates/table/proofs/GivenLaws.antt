@@ -10,16 +10,17 @@ use lib.Dec.{ltb, eqb}
 use borrow.Author.Tests.{ltb-true}
 use Rattle.rules.specs.declared.Outcome.{Outcome}
 use Rattle.rules.specs.declared.Outcome.the-variants.{Done, NotHeld}
-use Rattle.rules.specs.Family.{find, forget}
-use Rattle.rules.specs.Collecting.{linkage, Held, Entries, Content, justSets, meets, ifThere}
+use Rattle.rules.specs.Family.{find}
+use Rattle.rules.specs.Collecting.{linkage, Held, Entries, Content, justSets, meets, ifThere, mostKeys}
 use Rattle.rules.specs.Outcomes.{forgetOutcome, forgotten, heldOr, notCopied, copyHeld, copyOut}
-use Rattle.rules.proofs.Basics.{and-left, getD-map}
-use Rattle.rules.proofs.TableRules.{table-rules, entry-rules}
+use Rattle.rules.proofs.Basics.{and-left}
+use Rattle.rules.proofs.TableRules.{lawful, table-rules, table-meets, entry-rules}
+use Rattle.rules.proofs.Entries.{find-here, find-not-here, forget-not-here, column-at}
 use Rattle.lists.specs.Stored.{emptyList, storeMaybe, Tested}
 use Rattle.sets.specs.declared.Sets.{Sets}
 use Rattle.sets.specs.Stored.{keyIn, onIn, shownIn, storeSets, SetsStored, past, shutSets}
 use Rattle.sets.specs.Places.{placeIn}
-use Rattle.sets.proofs.Entries.{Here, noEntry, find-here, find-not-here, forget-not-here, column-at, entry-at}
+use Rattle.sets.proofs.Entries.{Here, noEntry, entry-at}
 use Rattle.sets.proofs.PlaceLaws.{place-at, store-forgets, Roomy, stored-short, stored-shown}
 use Rattle.sets.proofs.Contents.{store-injective}
 use Rattle.table.specs.declared.Table.{Table}
@@ -68,7 +69,7 @@ given-content {right = right} c m s (stored d f p a) = subst right (store-conten
 given-content c m s (notStored n a) = absurd (n (c, m, s))
 
 -- how many keys
-pub tested-short : (t : Table) {b : Bool} → Tested b (Stored t) → b ≡ true → t .sets .count ≤ 32
+pub tested-short : (t : Table) {b : Bool} → Tested b (Stored t) → b ≡ true → t .sets .count ≤ mostKeys
 tested-short t w f = stored-short (t .sets) (sets-stored t (w .sound f))
 
 -- the place at which a key stands, and how long the set there is
@@ -77,7 +78,7 @@ module _ (t : Table) {b : Bool} (w : Tested b (Stored t)) (f : b ≡ true) (at k
   counted : at < t .sets .count
   counted = ltb-true at (t .sets .count) (and-left (ltb at (t .sets .count)) _ s)
 
-  pub stands-short : at < 32
+  pub stands-short : at < mostKeys
   stands-short = omega (arith, counted, stored-short (t .sets) (sets-stored t (w .sound f)))
 
   pub stands-shown : Roomy (getD (t .sets .shown) at past)
@@ -91,12 +92,12 @@ module _ (t : Table) (c : Content) (m : meets c ≡ true) (e : t ≡ storeTable 
 
   module _ (k : ℕ) (n : Here (c .sets) k → ⊥) where
     missing : find linkage k (c .sets) ≡ none
-    missing = find-not-here 0 (c .sets) k (table-rules (c .sets) .0 m .ascend) n
+    missing = find-not-here linkage lawful noEntry (c .sets) k (table-meets (c .sets) .0 m .ascend) n
 
     pub forgets-missing : record { outcome = NotHeld; table = t } ≡ forgottenAs k c
     unfolding forgottenAs forgetOutcome heldOr forgotten
     forgets-missing =
-        let l : t ≡ storeTable (forgotten k c) = e ∙ ap (λ (s : Entries). tableOf (storeSets s)) (sym (forget-not-here 0 (c .sets) k (table-rules (c .sets) .0 m .ascend) n)) in
+        let l : t ≡ storeTable (forgotten k c) = e ∙ ap (λ (s : Entries). tableOf (storeSets s)) (sym (forget-not-here linkage lawful noEntry (c .sets) k (table-meets (c .sets) .0 m .ascend) n)) in
         let o : NotHeld ≡ heldOr (find linkage k (c .sets)) Done = sym (ap (λ (f : Option Held). heldOr f Done) missing) in
         λ j. record { outcome = o j; table = l j }
 
@@ -110,7 +111,7 @@ module _ (t : Table) (c : Content) (m : meets c ≡ true) (e : t ≡ storeTable 
     forgets-held left q u r =
         let l : u ≡ storeTable (forgotten k c) =
         r ∙ ap tableOf (q ∙ store-forgets (t .sets) (c .sets) sets-are k at p (table-rules (c .sets) .0 m .short) h) in
-        let o : Done ≡ heldOr (find linkage k (c .sets)) Done = sym (ap (λ (f : Option Held). heldOr f Done) (find-here (c .sets) k h)) in
+        let o : Done ≡ heldOr (find linkage k (c .sets)) Done = sym (ap (λ (f : Option Held). heldOr f Done) (find-here linkage lawful noEntry (c .sets) k h)) in
         λ j. record { outcome = o j; table = l j }
 
     i : ℕ
@@ -120,7 +121,7 @@ module _ (t : Table) (c : Content) (m : meets c ≡ true) (e : t ≡ storeTable 
     held = getD (c .sets) i noEntry
 
     within : i < length (c .sets)
-    unfolding Here i
+    unfolding i
     within = h .0
 
     place : at ≡ i
@@ -129,15 +130,15 @@ module _ (t : Table) (c : Content) (m : meets c ≡ true) (e : t ≡ storeTable 
 
     set-is : getD (t .sets .shown) at past ≡ storeMaybe (held .shown)
     unfolding storeSets shownIn held
-    set-is = ap₂ (λ (u : Sets) (j : ℕ). getD (u .shown) j past) sets-are place ∙ column-at shownIn emptyList past (c .sets) i within
+    set-is = ap₂ (λ (u : Sets) (j : ℕ). getD (u .shown) j past) sets-are place ∙ column-at shownIn mostKeys emptyList (c .sets) i past noEntry within
 
     on-is : getD (t .sets .on) at false ≡ held .state
     unfolding storeSets onIn held
-    on-is = ap₂ (λ (u : Sets) (j : ℕ). getD (u .on) j false) sets-are place ∙ column-at onIn false false (c .sets) i within
+    on-is = ap₂ (λ (u : Sets) (j : ℕ). getD (u .on) j false) sets-are place ∙ column-at onIn mostKeys false (c .sets) i false noEntry within
 
     key-is : held .key ≡ k
-    unfolding Here keyIn held i
-    key-is = sym (getD-map keyIn (c .sets) i 0 noEntry within) ∙ h .1
+    unfolding held i
+    key-is = h .1
 
     set-meets : ifThere (held .key) (held .shown) ≡ true
     unfolding held
@@ -148,7 +149,7 @@ module _ (t : Table) (c : Content) (m : meets c ≡ true) (e : t ≡ storeTable 
     copies-held ns ks =
         (λ j. copyStored (set-is j) (sym key-is j) (on-is j) ns ks)
         ∙ copy-stored (held .key) held (held .shown) ns ks set-meets
-        ∙ sym (ap (λ (f : Option Held). copyHeld f ns ks) (find-here (c .sets) k h))
+        ∙ sym (ap (λ (f : Option Held). copyHeld f ns ks) (find-here linkage lawful noEntry (c .sets) k h))
 
 -- ---- the answer where nothing is copied
 

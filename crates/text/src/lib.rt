@@ -7,7 +7,6 @@ use lists::is_dead;
 use lists::least;
 use lists::width_of;
 use out::Written;
-use out::cut_to;
 use out::decimal_size;
 use out::put;
 use out::put_bytes;
@@ -21,7 +20,7 @@ ghost use mathlib.Core.List.{[], _∷_, _++_};
 ghost use Prim.Native.Nat.{_+_, _*_, _≤_};
 ghost use lib.ListN.{length};
 ghost use Rattle.rules.specs.Field.{pair};
-ghost use Rattle.rules.specs.Collecting.{keyWidth};
+ghost use Rattle.rules.specs.Collecting.{keyWidth, mostKeys, mostIds};
 ghost use Rattle.out.specs.Text.{hexText, decimal};
 ghost use Rattle.text.specs.Listing.{stateText, kindLetter, pairText, pairsText, deadText, idsText, lineOf, linesOf, tailText, listing};
 ghost use Rattle.lists.specs.Stored.{pairsIn};
@@ -36,9 +35,9 @@ ghost use Rattle.text.specs.Lines.{setsText};
 fn letter_of(kind: u8) -> u8
     ensures { λ r. ⌜ r ≡ kindLetter kind ⌝ }
 {
-    if kind == 0 {
+    if kind == rules::DAB {
         68
-    } else if kind == 1 {
+    } else if kind == rules::RDS {
         82
     } else {
         77
@@ -63,7 +62,7 @@ fn put_mark<'a>(
         let q = put(out, p, letter_of(kind));
         put(out, q, 45)
     } else {
-        cut_to(at, out.len())
+        least(at, out.len())
     }
 }
 
@@ -99,7 +98,7 @@ pub fn put_pairs<'a>(
     ensures { λ r. ⌜ Puts (now (out .entry)) at (pairsText (keyWidth key) (pairsIn (now (kinds .entry)) (now (numbers .entry)) len)) (now (out .exit)) r ⌝ }
 {
     let end = least(len, least(kinds.len(), numbers.len()));
-    let mut p = cut_to(at, out.len());
+    let mut p = least(at, out.len());
     let mut i = 0;
     while i < end {
         p = put_pair(out, p, key, kinds[i], numbers[i]);
@@ -110,7 +109,7 @@ pub fn put_pairs<'a>(
 
 // The size of this many identifiers of a key.
 fn pairs_size(key: u32, n: usize) -> usize
-    requires { ⌜ n ≤ 128 ⌝ }
+    requires { ⌜ n ≤ mostIds ⌝ }
     ensures { λ r. ⌜ (r ≡ n * (2 + 2 * keyWidth key)) × (r ≤ 1280) ⌝ }
 {
     n * (2 + 2 * width_of(key))
@@ -162,7 +161,7 @@ fn line_size(key: u32, on: bool, list: IdList) -> usize
     let drm = list.named / 2 == 1;
     let r = mark_size(1, rds, &list.numbers, &list.kinds, len);
     let m = mark_size(3, drm, &list.numbers, &list.kinds, len);
-    let n = least(len, 128);
+    let n = least(len, IdList::MOST);
     4 + state_size(on) + 5 + decimal_size(n) + pairs_size(key, n) + r + m + 1
 }
 
@@ -173,10 +172,10 @@ fn put_line(out: &mut [u8], at: usize, key: u32, on: bool, list: IdList) -> usiz
     let len = list.len;
     let rds = list.named % 2 == 1;
     let drm = list.named / 2 == 1;
-    let p = put_head(out, at, key, on, least(len, 128));
+    let p = put_head(out, at, key, on, least(len, IdList::MOST));
     let q = put_pairs(out, p, key, &list.numbers, &list.kinds, len);
-    let r = put_mark(out, q, 1, rds, &list.numbers, &list.kinds, len);
-    let m = put_mark(out, r, 3, drm, &list.numbers, &list.kinds, len);
+    let r = put_mark(out, q, rules::RDS, rds, &list.numbers, &list.kinds, len);
+    let m = put_mark(out, r, rules::DRM, drm, &list.numbers, &list.kinds, len);
     put(out, m, 10)
 }
 
@@ -216,7 +215,7 @@ fn put_tail(out: &mut [u8], at: usize, over: usize) -> usize
     ensures { λ r. ⌜ Puts (now (out .entry)) at (tailText over) (now (out .exit)) r ⌝ }
 {
     if over == 0 {
-        cut_to(at, out.len())
+        least(at, out.len())
     } else {
         put_number_line(out, at, b"tail ", over)
     }
@@ -226,7 +225,7 @@ fn put_tail(out: &mut [u8], at: usize, over: usize) -> usize
 
 // The size of the lines of the sets of a sets.
 fn lines_size(sets: Sets) -> usize
-    requires { ⌜ sets .count ≤ 32 ⌝ }
+    requires { ⌜ sets .count ≤ mostKeys ⌝ }
     ensures { λ r. ⌜ (r ≡ length (linesOf (setsIn sets))) × (r ≤ 42240) ⌝ }
 {
     let mut size = 0;
@@ -243,10 +242,10 @@ fn lines_size(sets: Sets) -> usize
 
 // The lines of the sets at a place.
 fn put_lines(out: &mut [u8], at: usize, sets: Sets) -> usize
-    requires { ⌜ sets .count ≤ 32 ⌝ }
+    requires { ⌜ sets .count ≤ mostKeys ⌝ }
     ensures { λ r. ⌜ Puts (now (out .entry)) at (linesOf (setsIn sets)) (now (out .exit)) r ⌝ }
 {
-    let mut p = cut_to(at, out.len());
+    let mut p = least(at, out.len());
     let mut k = 0;
     while k < sets.count {
         let set = sets.shown[k];

@@ -4,7 +4,7 @@ use native.Mathlib.Omega.{arith}
 use mathlib.Core.Path.{_≡_, ap}
 use lib.ListN.{length}
 use borrow.Author.Needs.{needs}
-use Rattle.rules.specs.Collecting.{keyWidth}
+use Rattle.rules.specs.Collecting.{keyWidth, mostIds}
 use Rattle.pieces.specs.Air.{pieceMost, cut}
 use Rattle.sets.specs.Shown.{setIn}
 use Rattle.air.proofs.Ranges.{left}
@@ -36,8 +36,8 @@ turn : (c : tie.After-part-at Inv-loop μ-loop)
 turn c =
     let s = c .before .before .before .before .before .before in
     let l = s .args .t1 in
-    let nl : length (l .numbers) ≡ 128 = search needs in
-    let kl : length (l .kinds) ≡ 128 = search needs in
+    let nl : length (l .numbers) ≡ mostIds = search needs in
+    let kl : length (l .kinds) ≡ mostIds = search needs in
     part-turn l nl kl (s .pre) (s .args .key) (c .before .before .before .before .before .loop .from) (c .part-at .result)
     (c .before .before .before .before .loop-test .taken) (c .part-at .ensures)
 
@@ -53,8 +53,8 @@ returns : tie.Need-returns Inv-loop μ-loop
 returns c =
     let at = c .before .loop in
     let l = c .before .before .args .t1 in
-    let nl : length (l .numbers) ≡ 128 = search needs in
-    let kl : length (l .kinds) ≡ 128 = search needs in (
+    let nl : length (l .numbers) ≡ mostIds = search needs in
+    let kl : length (l .kinds) ≡ mostIds = search needs in (
       omega (arith, at .inv .2, ap length (left-none l nl kl (c .before .before .pre) (pieceMost (keyWidth (c .before .before .args .key))) (at .from) (at .inv .1) (c .loop-test .left))),
       omega arith,
     )

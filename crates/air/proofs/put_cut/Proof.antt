@@ -4,7 +4,7 @@ use native.Mathlib.Omega.{arith}
 use mathlib.Core.Path.{_≡_, sym, ap, subst}
 use lib.ListN.{length}
 use borrow.Author.Needs.{needs}
-use Rattle.rules.specs.Collecting.{keyWidth}
+use Rattle.rules.specs.Collecting.{keyWidth, mostIds}
 use Rattle.pieces.specs.Air.{pieceMost, cut, blocksOf}
 use Rattle.lists.proofs.StoredLaws.{holds-facts}
 use Rattle.out.proofs.Runs.{Going, going-start, going-on, going-end}
@@ -30,17 +30,17 @@ turn : (c : tie.After-part-at Inv-loop μ-loop)
 turn c =
     let s = c .before .before .before .before .before .before .before .before in
     let l = s .args .t5 in
-    let nl : length (l .numbers) ≡ 128 = search needs in
-    let kl : length (l .kinds) ≡ 128 = search needs in
+    let nl : length (l .numbers) ≡ mostIds = search needs in
+    let kl : length (l .kinds) ≡ mostIds = search needs in
     part-turn l nl kl (holds-facts _ _ (s .pre) .short) (s .args .key) (c .before .before .before .before .before .loop .from) (c .part-at .result)
     (c .before .before .before .before .loop-test .taken) (c .part-at .ensures)
 
-cut-to-requires : tie.Need-cut-to-requires Inv-loop μ-loop
-cut-to-requires c κs = search needs
+least-requires : tie.Need-least-requires Inv-loop μ-loop
+least-requires c κs = search needs
 
 loop-holds : tie.Need-loop-holds Inv-loop μ-loop
 unfolding left
-loop-holds c = (omega arith, going-start _ _ _ _ (c .cut-to .ensures))
+loop-holds c = (omega arith, going-start _ _ _ _ (c .least .ensures))
 
 part-at-requires : tie.Need-part-at-requires Inv-loop μ-loop
 part-at-requires c κs =
@@ -53,8 +53,8 @@ put-block-requires c κs =
     let at = b .before .before .before .before .before in
     let s = at .before .before .before in
     let l = s .args .t5 in
-    let nl : length (l .numbers) ≡ 128 = search needs in
-    let kl : length (l .kinds) ≡ 128 = search needs in
+    let nl : length (l .numbers) ≡ mostIds = search needs in
+    let kl : length (l .kinds) ≡ mostIds = search needs in
     subst (λ (n : ℕ). Fitting (s .args .key) n (b .part-at .result)) (sym nl)
     (part-fits (s .args .key) l nl kl (s .pre) (at .loop .from) (b .part-at .result) (b .before .before .before .before .loop-test .taken) (b .part-at .ensures))
 
@@ -80,8 +80,8 @@ returns c =
     let s = c .before .before .before .before in
     let at = c .before .loop in
     let l = s .args .t5 in
-    let nl : length (l .numbers) ≡ 128 = search needs in
-    let kl : length (l .kinds) ≡ 128 = search needs in
+    let nl : length (l .numbers) ≡ mostIds = search needs in
+    let kl : length (l .kinds) ≡ mostIds = search needs in
     going-end
     (ap (blocksOf (s .args .key) (s .args .on))
     (left-none l nl kl (holds-facts _ _ (s .pre) .short) (pieceMost (keyWidth (s .args .key))) (at .from) (at .inv .0) (c .loop-test .left)))
@@ -93,7 +93,7 @@ put-cut-spec =
     (tie.spec
     Inv-loop
     μ-loop
-    cut-to-requires
+    least-requires
     loop-holds
     part-at-requires
     put-block-requires

@@ -4,6 +4,7 @@ use mathlib.Core.Path.{_≡_, sym, ap, _∙_}
 use mathlib.Core.List.{append-nil}
 use lib.ListN.{length}
 use borrow.Author.Needs.{needs}
+use Rattle.rules.specs.Collecting.{mostIds}
 use Rattle.pieces.specs.Air.{Piece, blocksOf, blockOf, figBytes}
 use Rattle.sets.specs.Shown.{setIn}
 use Rattle.out.proofs.Runs.{puts-none, puts-as}
@@ -17,11 +18,11 @@ is-dead-requires c κs = tt
 put-block-requires : tie.Need-put-block-requires
 put-block-requires c κs =
     let s = c .before .before .before .before .before .before .before .before .before .before .before .before in
-    let nl : length (s .args .t5 .numbers) ≡ 128 = search needs in
+    let nl : length (s .args .t5 .numbers) ≡ mostIds = search needs in
     record { ahead = omega arith; inside = omega arith; few = omega arith; kind = s .pre }
 
-cut-to-requires : tie.Need-cut-to-requires
-cut-to-requires c κs = search needs
+least-requires : tie.Need-least-requires
+least-requires c κs = search needs
 
 same-length : tie.Need-same-length
 same-length c = search needs
@@ -43,9 +44,9 @@ returns-2 c =
     let a = c .before .before .before .before .before .before .before .before .before .args in
     puts-as
     (ap (blocksOf (a .key) (a .on)) (sym (dead-none (a .kind) (a .named) (setIn (a .t5) .items) (sym (c .before .before .is-dead .ensures) ∙ c .before .if1 .left))))
-    (puts-none _ _ _ (c .cut-to .ensures))
+    (puts-none _ _ _ (c .least .ensures))
 
 pub put-dead-spec : {M : Type 1} → statement M
 put-dead-spec =
     tie.close
-    (tie.spec is-dead-requires put-block-requires cut-to-requires same-length returns returns-2)
+    (tie.spec is-dead-requires put-block-requires least-requires same-length returns returns-2)

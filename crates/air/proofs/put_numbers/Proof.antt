@@ -16,11 +16,11 @@ Inv-loop out₀ at width numbers from to p₀ i₀ out p i = (i ≤ to) × Going
 abbrev μ-loop : tie.MeasureT-loop
 μ-loop out₀ at width numbers from to p₀ i₀ out p i = to - i
 
-cut-to-requires : tie.Need-cut-to-requires Inv-loop μ-loop
-cut-to-requires c κs = search needs
+least-requires : tie.Need-least-requires Inv-loop μ-loop
+least-requires c κs = search needs
 
 loop-holds : tie.Need-loop-holds Inv-loop μ-loop
-loop-holds c = (omega arith, going-start _ _ _ _ (c .cut-to .ensures))
+loop-holds c = (omega arith, going-start _ _ _ _ (c .least .ensures))
 
 mul-put-number : tie.Need-mul-put-number Inv-loop μ-loop
 mul-put-number c = search needs
@@ -65,7 +65,7 @@ put-numbers-spec =
     (tie.spec
     Inv-loop
     μ-loop
-    cut-to-requires
+    least-requires
     loop-holds
     mul-put-number
     shared-slice-read-put-number

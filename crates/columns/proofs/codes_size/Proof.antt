@@ -5,7 +5,7 @@ use native.Mathlib.Omega.{arith}
 use mathlib.Core.Path.{_≡_, ap, _∙_}
 use mathlib.Core.Bool.{cond}
 use lib.ListN.{length}
-use Rattle.rules.specs.Collecting.{keyWidth}
+use Rattle.rules.specs.Collecting.{keyWidth, mostIds}
 use Rattle.text.specs.Listing.{stateText}
 use Rattle.rules.proofs.TableRules.{width-most}
 use Rattle.columns.proofs.codes_size.Statement.{statement}
@@ -28,14 +28,14 @@ row-size-requires : tie.Need-row-size-requires
 row-size-requires c κs = omega (arith, narrow c)
 
 mul-result : tie.Need-mul-result
-mul-result c = record { fits = omega (arith, mul-le-mul {n₁ = c .before .before .args .n} {n₂ = 128} {m₂ = 49} (c .before .before .pre) (c .row-size .ensures .1)) }
+mul-result c = record { fits = omega (arith, mul-le-mul {n₁ = c .before .before .args .n} {n₂ = mostIds} {m₂ = 49} (c .before .before .pre) (c .row-size .ensures .1)) }
 
 returns : tie.Need-returns
 returns c =
     let a = c .before .before .args in
     let w : 11 + length (stateText (a .on)) + (2 + 2 * c .before .width-of .result) ≡ 13 + length (stateText (a .on)) + 2 * keyWidth (a .key) = omega (arith, c .before .width-of .ensures) in (
       ap (λ (k : ℕ). a .n * k) (c .row-size .ensures .0 ∙ ap (λ (k : ℕ). cond (a .csv) k 49) w),
-      mul-le-mul {n₁ = a .n} {n₂ = 128} {m₂ = 49} (c .before .before .pre) (c .row-size .ensures .1),
+      mul-le-mul {n₁ = a .n} {n₂ = mostIds} {m₂ = 49} (c .before .before .pre) (c .row-size .ensures .1),
     )
 
 pub codes-size-spec : {M : Type 1} → statement M

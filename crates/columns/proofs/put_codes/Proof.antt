@@ -3,6 +3,7 @@ use Prim.Native.Nat.{_-_, min}
 use native.Mathlib.Omega.{arith}
 use mathlib.Core.Path.{_≡_, ap}
 use lib.ListN.{length, drop}
+use Rattle.rules.specs.Collecting.{mostIds}
 use Rattle.rules.specs.Field.{pair}
 use Rattle.lists.specs.Stored.{pairsIn}
 use Rattle.out.proofs.Runs.{Going, going-start, going-on, going-end}
@@ -16,7 +17,7 @@ use Rattle.columns.proofs.put_codes.Tie as tie
 
 abbrev Inv-loop : tie.InvT-loop
 Inv-loop out₀ at csv key on list end p₀ j₀ out p j =
-    (end ≡ min (list .len) 128)
+    (end ≡ min (list .len) mostIds)
     × Going out₀ at (rowsText csv (codeRows (shownAs key on list) (pairsIn (list .kinds) (list .numbers) (list .len))))
     out p (rowsText csv (codeRows (shownAs key on list) (drop j (pairsIn (list .kinds) (list .numbers) (list .len)))))
 
@@ -26,11 +27,11 @@ abbrev μ-loop : tie.MeasureT-loop
 least-requires : tie.Need-least-requires Inv-loop μ-loop
 least-requires c κs = tt
 
-cut-to-requires : tie.Need-cut-to-requires Inv-loop μ-loop
-cut-to-requires c κs = tt
+least-requires-2 : tie.Need-least-requires-2 Inv-loop μ-loop
+least-requires-2 c κs = tt
 
 loop-holds : tie.Need-loop-holds Inv-loop μ-loop
-loop-holds c = (c .before .least .ensures, going-start _ _ _ _ (c .cut-to .ensures))
+loop-holds c = (c .before .least .ensures, going-start _ _ _ _ (c .least2 .ensures))
 
 element-copy-out-put-row : tie.Need-element-copy-out-put-row Inv-loop μ-loop
 element-copy-out-put-row c = search needs
@@ -56,8 +57,8 @@ loop-again c =
     let a = c .before .before .before .before .before .before .before .before .before .before .before .args in
     let l = a .t6 in
     let at = c .before .before .before .before .before .before .before .loop in
-    let ns : length (l .numbers) ≡ 128 = search needs in
-    let ks : length (l .kinds) ≡ 128 = search needs in
+    let ns : length (l .numbers) ≡ mostIds = search needs in
+    let ks : length (l .kinds) ≡ mostIds = search needs in
     let n : c .before .before .before .before .before .before .before .before .before .least .result ≡ min (l .len) (min (length (l .kinds)) (length (l .numbers))) = omega (arith, at .inv .0) in (
       at .inv .0,
       going-on
@@ -75,8 +76,8 @@ returns c =
     let a = c .before .before .before .before .before .args in
     let l = a .t6 in
     let at = c .before .loop in
-    let ns : length (l .numbers) ≡ 128 = search needs in
-    let ks : length (l .kinds) ≡ 128 = search needs in
+    let ns : length (l .numbers) ≡ mostIds = search needs in
+    let ks : length (l .kinds) ≡ mostIds = search needs in
     let n : c .before .before .before .least .result ≡ min (l .len) (min (length (l .kinds)) (length (l .numbers))) = omega (arith, at .inv .0) in
     going-end (ap (λ ps. rowsText (a .csv) (codeRows (shownAs (a .key) (a .on) l) ps)) (pairs-end (l .kinds) (l .numbers) (l .len) (at .j) n (c .loop-test .left))) (at .inv .1)
 
@@ -87,7 +88,7 @@ put-codes-spec =
     Inv-loop
     μ-loop
     least-requires
-    cut-to-requires
+    least-requires-2
     loop-holds
     element-copy-out-put-row
     mul-put-row

@@ -15,8 +15,8 @@ is-dead-requires c κs = tt
 put-row-requires : tie.Need-put-row-requires
 put-row-requires c κs = tt
 
-cut-to-requires : tie.Need-cut-to-requires
-cut-to-requires c κs = tt
+least-requires : tie.Need-least-requires
+least-requires c κs = tt
 
 same-length : tie.Need-same-length
 same-length c = search needs
@@ -27,9 +27,9 @@ returns c = puts-as (rw (sym (c .before .before .before .before .before .is-dead
 
 returns-2 : tie.Need-returns-2
 unfolding deadRows rowsText shownAs setIn
-returns-2 c = puts-as (rw (sym (c .before .before .is-dead .ensures) ∙ c .before .if1 .left)) (puts-none _ _ _ (c .cut-to .ensures))
+returns-2 c = puts-as (rw (sym (c .before .before .is-dead .ensures) ∙ c .before .if1 .left)) (puts-none _ _ _ (c .least .ensures))
 
 pub put-dead-spec : {M : Type 1} → statement M
 put-dead-spec =
     tie.close
-    (tie.spec is-dead-requires put-row-requires cut-to-requires same-length returns returns-2)
+    (tie.spec is-dead-requires put-row-requires least-requires same-length returns returns-2)

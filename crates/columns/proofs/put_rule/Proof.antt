@@ -5,8 +5,8 @@ use borrow.Author.Needs.{needs}
 use Rattle.columns.proofs.put_rule.Statement.{statement}
 use Rattle.columns.proofs.put_rule.Tie as tie
 
-cut-to-requires : tie.Need-cut-to-requires
-cut-to-requires c κs = tt
+least-requires : tie.Need-least-requires
+least-requires c κs = tt
 
 put-same-requires : tie.Need-put-same-requires
 put-same-requires c κs = tt
@@ -16,7 +16,7 @@ put-requires c κs = tt
 
 returns : tie.Need-returns
 unfolding ruleText
-returns c = puts-as (rw (c .before .if1 .taken)) (puts-none _ _ _ (c .cut-to .ensures))
+returns c = puts-as (rw (c .before .if1 .taken)) (puts-none _ _ _ (c .least .ensures))
 
 same-length : tie.Need-same-length
 same-length c = search needs
@@ -28,4 +28,4 @@ returns-2 c = puts-as (rw (c .before .before .before .before .before .before .be
 pub put-rule-spec : {M : Type 1} → statement M
 put-rule-spec =
     tie.close
-    (tie.spec cut-to-requires put-same-requires put-requires returns same-length returns-2)
+    (tie.spec least-requires put-same-requires put-requires returns same-length returns-2)

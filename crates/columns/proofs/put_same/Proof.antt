@@ -14,11 +14,11 @@ Inv-loop out₀ at n b p₀ left₀ out p left = Going out₀ at (replicate n b)
 abbrev μ-loop : tie.MeasureT-loop
 μ-loop out₀ at n b p₀ left₀ out p left = left
 
-cut-to-requires : tie.Need-cut-to-requires Inv-loop μ-loop
-cut-to-requires c κs = tt
+least-requires : tie.Need-least-requires Inv-loop μ-loop
+least-requires c κs = tt
 
 loop-holds : tie.Need-loop-holds Inv-loop μ-loop
-loop-holds c = going-start _ _ _ _ (c .cut-to .ensures)
+loop-holds c = going-start _ _ _ _ (c .least .ensures)
 
 sub-left : tie.Need-sub-left Inv-loop μ-loop
 sub-left c = search needs
@@ -49,7 +49,7 @@ put-same-spec =
     (tie.spec
     Inv-loop
     μ-loop
-    cut-to-requires
+    least-requires
     loop-holds
     sub-left
     put-requires

@@ -18,15 +18,15 @@ Inv-loop out₀ at csv table p₀ k₀ out p k = Going out₀ at (setsText csv (
 abbrev μ-loop : tie.MeasureT-loop
 μ-loop out₀ at csv table p₀ k₀ out p k = table .count - k
 
-cut-to-requires : tie.Need-cut-to-requires Inv-loop μ-loop
-cut-to-requires c κs = tt
+least-requires : tie.Need-least-requires Inv-loop μ-loop
+least-requires c κs = tt
 
 loop-holds : tie.Need-loop-holds Inv-loop μ-loop
 loop-holds c =
     let a = c .before .before .args in
-    subst (λ rest. Going (a .out .now) (a .at) (setsText (a .csv) (setsIn (a .t4))) (a .out .now) (c .cut-to .result) rest)
+    subst (λ rest. Going (a .out .now) (a .at) (setsText (a .csv) (setsIn (a .t4))) (a .out .now) (c .least .result) rest)
     (sym (ap (setsText (a .csv)) (sets-all (a .t4) {n = a .t4 .count} (omega (arith, c .before .before .pre)))))
-    (going-start _ _ _ _ (c .cut-to .ensures))
+    (going-start _ _ _ _ (c .least .ensures))
 
 mul-set : tie.Need-mul-set Inv-loop μ-loop
 mul-set c = search needs
@@ -79,7 +79,7 @@ put-sets-spec =
     (tie.spec
     Inv-loop
     μ-loop
-    cut-to-requires
+    least-requires
     loop-holds
     mul-set
     element-copy-out-set

@@ -4,7 +4,7 @@ use native.Mathlib.Omega.{arith}
 use mathlib.Core.Path.{_≡_, ap, _∙_}
 use mathlib.Core.Bool.{cond}
 use lib.ListN.{length}
-use Rattle.rules.specs.Collecting.{keyWidth}
+use Rattle.rules.specs.Collecting.{keyWidth, mostIds}
 use Rattle.text.specs.Listing.{stateText}
 use Rattle.lists.specs.Stored.{pairsIn}
 use Rattle.lists.proofs.Pairs.{length-pairs-in}
@@ -43,8 +43,8 @@ unfolding shownAs setIn
 returns c =
     let a = c .before .before .before .before .before .before .before .args in
     let l = a .list in
-    let ns : length (l .numbers) ≡ 128 = search needs in
-    let ks : length (l .kinds) ≡ 128 = search needs in
+    let ns : length (l .numbers) ≡ mostIds = search needs in
+    let ks : length (l .kinds) ≡ mostIds = search needs in
     let n : c .before .before .before .before .least .result ≡ length (pairsIn (l .kinds) (l .numbers) (l .len)) = omega (arith, c .before .before .before .before .least .ensures, length-pairs-in (l .kinds) (l .numbers) (l .len)) in
     let size =
     length-set (a .csv) (shownAs (a .key) (a .on) l)

@@ -4,6 +4,7 @@ use Prim.Native.Nat.{ℕ, _+_, _-_, _<_, _^_}
 use native.Mathlib.Omega.{arith}
 use mathlib.Core.Path.{ap, _≡_, sym, _∙_}
 use lib.ListN.{length, getD, take, drop}
+use Rattle.rules.specs.Collecting.{mostKeys}
 use Rattle.block.specs.declared.Spot.{Spot}
 use Rattle.block.specs.Judged.{noSpot}
 use Rattle.block.proofs.Meaning.{bodyAt, says}
@@ -25,7 +26,6 @@ use Rattle.field.proofs.Field.key.Reads as key-reads
 use Rattle.reading.proofs.Reply.answer.Reads as answer-reads
 use Rattle.reading.proofs.Reply.noted.Reads as noted-reads
 use Rattle.reading.proofs.Reply.to.Reads as to-reads
-use Rattle.reading.proofs.head_of.Reads as head-of-reads
 use Rattle.reading.proofs.is_done.Reads as is-done-reads
 use Rattle.reading.proofs.opened.Reads as opened-reads
 use Rattle.reading.proofs.opens.Reads as opens-reads
@@ -39,11 +39,11 @@ use Rattle.reading.proofs.unheld_note.Reads as unheld-note-reads
 use Rattle.sets.proofs.place_of.Reads as place-of-reads
 
 abbrev Inv-loop : tie.InvT-loop
-Inv-loop bytes sn₀ sk₀ dn₀ dk₀ shown₀ draft₀ head₀ closed reply₀ spots₀ from₀ at₀ i₀ sn sk dn dk shown draft head reply spots from at i =
-    Kept bytes (tableOf (setsOf head₀ sn₀ sk₀ shown₀ dn₀ dk₀ draft₀)) head sn sk shown dn dk draft reply spots from at i
+Inv-loop bytes sn₀ sk₀ dn₀ dk₀ laid₀ shown₀ draft₀ on₀ closed reply₀ spots₀ from₀ at₀ i₀ sn sk dn dk laid shown draft on reply spots from at i =
+    Kept bytes (tableOf (setsOf laid₀ on₀ sn₀ sk₀ shown₀ dn₀ dk₀ draft₀)) laid on sn sk shown dn dk draft reply spots from at i
 
 abbrev μ-loop : tie.MeasureT-loop
-μ-loop bytes sn₀ sk₀ dn₀ dk₀ shown₀ draft₀ head₀ closed reply₀ spots₀ from₀ at₀ i₀ sn sk dn dk shown draft head reply spots from at i =
+μ-loop bytes sn₀ sk₀ dn₀ dk₀ laid₀ shown₀ draft₀ on₀ closed reply₀ spots₀ from₀ at₀ i₀ sn sk dn dk laid shown draft on reply spots from at i =
     (length bytes - at) + (spots .count - i)
 
 -- ---- contexts: what was known earlier on, from where the loop begins and from where a field's place is known
@@ -65,6 +65,35 @@ keyed c = c .before .before .before .before .before .before .before .before
 abbrev placed : (c : tie.After-stands-at Inv-loop μ-loop) → tie.After-place-of Inv-loop μ-loop
 placed c = c .before .before .before .before
 
+-- at a held key: its place known; its set's row read, its open list's row read, both stepped
+abbrev held : (c : tie.After-row-at Inv-loop μ-loop) → tie.Then2 Inv-loop μ-loop
+held c = c .before .before .before .before .before .before .before .before
+
+abbrev set-row : (c : tie.After-row-at2 Inv-loop μ-loop) → tie.After-row-at Inv-loop μ-loop
+set-row c = c .before .before .before .before .before .before .before .before
+
+abbrev both-rows : (c : tie.After-dk4 Inv-loop μ-loop) → tie.After-row-at2 Inv-loop μ-loop
+both-rows c = c .before .before .before .before .before .before
+
+abbrev stepped : (c : tie.After-dk4 Inv-loop μ-loop) → tie.Then2 Inv-loop μ-loop
+stepped c = held (set-row (both-rows c))
+
+-- at a key that is opened: found to be new; the sets gathered, the key opened, the sets laid out again, then the open lists
+abbrev new-key : (c : tie.After-sets-of Inv-loop μ-loop) → tie.Else2 Inv-loop μ-loop
+new-key c = c .before .before .before .before .before .before .before
+
+abbrev gathered-now : (c : tie.After-opened Inv-loop μ-loop) → tie.After-sets-of Inv-loop μ-loop
+gathered-now c = c .before .before
+
+abbrev opened-now : (c : tie.After-sk6 Inv-loop μ-loop) → tie.After-opened Inv-loop μ-loop
+opened-now c = c .before .before .before .before
+
+abbrev sets-laid : (c : tie.After-dk6 Inv-loop μ-loop) → tie.After-sk6 Inv-loop μ-loop
+sets-laid c = c .before .before .before .before .before .before
+
+abbrev opening : (c : tie.After-sk6 Inv-loop μ-loop) → tie.Then1 Inv-loop μ-loop
+opening c = turn (new-key (gathered-now (opened-now c)) .before)
+
 -- ---- what holds there
 
 -- a slice's length is a usize, and it holds bytes
@@ -77,10 +106,19 @@ bytes-of c n = c .before .before .before .before .before .before .before .before
 next-fits : (i : ℕ) → i < 14 → i + 1 < 2 ^ 64
 next-fits i h = omega arith
 
--- the rows hold the given table
+-- what is laid out at first: the given table
+abbrev laid-out : (c : tie.After-no-spots Inv-loop μ-loop) → tie.Start Inv-loop μ-loop
+laid-out c = c .before .before .before .before .before .before .before .before .before .before .before .before .before .before .before .before .before .before
+
+abbrev sets-out : (c : tie.After-no-spots Inv-loop μ-loop) → tie.After-scatter Inv-loop μ-loop
+sets-out c = c .before .before .before .before .before .before .before .before .before .before .before .before
+
+abbrev lists-out : (c : tie.After-no-spots Inv-loop μ-loop) → tie.After-scatter2 Inv-loop μ-loop
+lists-out c = c .before .before .before .before .before .before
+
 laid-first : (c : tie.After-no-spots Inv-loop μ-loop)
-    → tableOf (setsOf (c .before .before .before .head-of .result) (c .before .before .before .before .before .before .before .before .before .before .before .before .scatter .last .1 .0) (c .before .before .before .before .before .before .before .before .before .before .before .before .scatter .last .1 .1 .0) (c .before .before .before .before .before .before .before .before .before .before .before .before .scatter .result) (c .before .before .before .before .before .before .scatter2 .last .1 .0) (c .before .before .before .before .before .before .scatter2 .last .1 .1 .0) (c .before .before .before .before .before .before .scatter2 .result)) ≡ c .before .before .before .before .before .before .before .before .before .before .before .before .before .before .before .before .before .before .args .table
-laid-first c = first-table (c .before .before .before .before .before .before .before .before .before .before .before .before .before .before .before .before .before .before .args .bytes .now) _ (c .before .before .before .before .before .before .before .before .before .before .before .before .before .before .before .before .before .before .pre) _ (c .before .before .before .head-of .ensures) _ _ _ _ _ _ (c .before .before .before .before .before .before .before .before .before .before .before .before .scatter .ensures) (c .before .before .before .before .before .before .scatter2 .ensures)
+    → tableOf (setsOf (laid-out c .args .table .sets) (laid-out c .args .table .sets .on) (sets-out c .scatter .last .1 .0) (sets-out c .scatter .last .1 .1 .0) (sets-out c .scatter .result) (lists-out c .scatter2 .last .1 .0) (lists-out c .scatter2 .last .1 .1 .0) (lists-out c .scatter2 .result)) ≡ laid-out c .args .table
+laid-first c = first-table (laid-out c .args .bytes .now) _ (laid-out c .pre) _ _ _ _ _ _ (sets-out c .scatter .ensures) (lists-out c .scatter2 .ensures)
 
 -- the present field stands within its block
 fits : (c : tie.Then1 Inv-loop μ-loop) → Fits' (start (c .before) .args .bytes .now) (c .before .loop .spots) (c .before .loop .from) (c .before .loop .i)
@@ -97,7 +135,7 @@ body-is : (c : tie.Then1 Inv-loop μ-loop)
 body-is c = body-of (start (c .before) .args .bytes .now) (c .before .loop .from) (spot-of c) (fits c .ordered) (fits c .inside)
 
 -- a held key has one of 32 places
-held-place : (c : tie.Then2 Inv-loop μ-loop) → placed (c .before) .place-of .result < 32
+held-place : (c : tie.Then2 Inv-loop μ-loop) → placed (c .before) .place-of .result < mostKeys
 unfolding setsOf
 held-place c = place-short _ _ _ _ _ _ _ _ _ (turn (c .before) .before .loop .inv .going) _ _ (sym (c .before .stands-at .ensures) ∙ c .if2 .taken)
 
@@ -121,9 +159,6 @@ slice-aggregate-scatter-4 c = search needs
 scatter-requires-2 : tie.Need-scatter-requires-2 Inv-loop μ-loop
 scatter-requires-2 c κs = search needs
 
-head-of-requires : tie.Need-head-of-requires Inv-loop μ-loop
-head-of-requires c κs = search needs
-
 none-requires : tie.Need-none-requires Inv-loop μ-loop
 none-requires c κs = search needs
 
@@ -134,8 +169,7 @@ no-spots-requires : tie.Need-no-spots-requires Inv-loop μ-loop
 no-spots-requires c κs = search needs
 
 loop-holds : tie.Need-loop-holds Inv-loop μ-loop
-loop-holds c =
-    kept-first _ (c .before .before .before .before .before .before .before .before .before .before .before .before .before .before .before .before .before .before .args .table) (c .before .before .before .before .before .before .before .before .before .before .before .before .before .before .before .before .before .before .pre) _ (c .before .before .before .head-of .ensures) _ _ _ _ _ _ (c .before .before .before .before .before .before .before .before .before .before .before .before .scatter .ensures) (c .before .before .before .before .before .before .scatter2 .ensures) _ (c .before .to .ensures) _ (c .no-spots .ensures)
+loop-holds c = kept-first _ (laid-out c .args .table) (laid-out c .pre) _ _ _ _ _ _ (sets-out c .scatter .ensures) (lists-out c .scatter2 .ensures) _ (c .before .to .ensures) _ (c .no-spots .ensures)
 
 mul-spot : tie.Need-mul-spot Inv-loop μ-loop
 mul-spot c = let w = fits (c) in omega arith
@@ -192,7 +226,7 @@ part-sn-start : tie.Need-part-sn-start Inv-loop μ-loop
 part-sn-start c = let w = held-place (c) in omega arith
 
 part-sn-end : tie.Need-part-sn-end Inv-loop μ-loop
-part-sn-end c = let w = held-place (c) in omega (arith, c .before .before .before .before .before .before .before .before .before .before .before .before .before .before .before .before .loop .inv .shown .numbers)
+part-sn-end c = let w = held-place c in omega (arith, turn (c .before) .before .loop .inv .shown .numbers)
 
 sub-on-held-2 : tie.Need-sub-on-held-2 Inv-loop μ-loop
 sub-on-held-2 c = let w = held-place (c .before) in omega arith
@@ -201,47 +235,55 @@ part-sk-start : tie.Need-part-sk-start Inv-loop μ-loop
 part-sk-start c = let w = held-place (c .before) in omega arith
 
 part-sk-end : tie.Need-part-sk-end Inv-loop μ-loop
-part-sk-end c = let w = held-place (c .before) in omega (arith, c .before .before .before .before .before .before .before .before .before .before .before .before .before .before .before .before .before .loop .inv .shown .kinds)
+part-sk-end c = let w = held-place (c .before) in omega (arith, turn (c .before .before) .before .loop .inv .shown .kinds)
 
 row-at-requires : tie.Need-row-at-requires Inv-loop μ-loop
-row-at-requires c κs = let w = held-place (c .before .before .before .before .before .before .before) in (omega (arith, c .before .before .before .before .before .before .before .before .before .before .before .before .before .before .before .before .before .before .before .before .before .before .before .loop .inv .shown .lens), omega (arith, c .before .before .before .before .before .before .before .before .before .before .before .before .before .before .before .before .before .before .before .before .before .before .before .loop .inv .shown .names))
+row-at-requires c κs =
+    let h = c .before .before .before .before .before .before .before in
+    let K = turn (h .before) .before .loop .inv in
+    let w = held-place h in
+    (omega (arith, K .shown .lens), omega (arith, K .shown .names))
 
 mul-dn : tie.Need-mul-dn Inv-loop μ-loop
-mul-dn c = let w = held-place (c .before .before .before .before .before .before .before .before) in omega arith
+mul-dn c = let w = held-place (held c) in omega arith
 
 sub-on-held-3 : tie.Need-sub-on-held-3 Inv-loop μ-loop
-sub-on-held-3 c = let w = held-place (c .before .before .before .before .before .before .before .before) in omega arith
+sub-on-held-3 c = let w = held-place (held c) in omega arith
 
 part-dn-start : tie.Need-part-dn-start Inv-loop μ-loop
-part-dn-start c = let w = held-place (c .before .before .before .before .before .before .before .before) in omega arith
+part-dn-start c = let w = held-place (held c) in omega arith
 
 part-dn-end : tie.Need-part-dn-end Inv-loop μ-loop
-part-dn-end c = let w = held-place (c .before .before .before .before .before .before .before .before) in omega (arith, c .before .before .before .before .before .before .before .before .before .before .before .before .before .before .before .before .before .before .before .before .before .before .before .before .loop .inv .draft .numbers)
+part-dn-end c = let w = held-place (held c) in omega (arith, turn (held c .before) .before .loop .inv .draft .numbers)
 
 sub-on-held-4 : tie.Need-sub-on-held-4 Inv-loop μ-loop
-sub-on-held-4 c = let w = held-place (c .before .before .before .before .before .before .before .before .before) in omega arith
+sub-on-held-4 c = let w = held-place (held (c .before)) in omega arith
 
 part-dk-start : tie.Need-part-dk-start Inv-loop μ-loop
-part-dk-start c = let w = held-place (c .before .before .before .before .before .before .before .before .before) in omega arith
+part-dk-start c = let w = held-place (held (c .before)) in omega arith
 
 part-dk-end : tie.Need-part-dk-end Inv-loop μ-loop
-part-dk-end c = let w = held-place (c .before .before .before .before .before .before .before .before .before) in omega (arith, c .before .before .before .before .before .before .before .before .before .before .before .before .before .before .before .before .before .before .before .before .before .before .before .before .before .loop .inv .draft .kinds)
+part-dk-end c = let w = held-place (held (c .before)) in omega (arith, turn (held (c .before) .before) .before .loop .inv .draft .kinds)
 
 row-at-requires-2 : tie.Need-row-at-requires-2 Inv-loop μ-loop
-row-at-requires-2 c κs = let w = held-place (c .before .before .before .before .before .before .before .before .before .before .before .before .before .before .before) in (omega (arith, c .before .before .before .before .before .before .before .before .before .before .before .before .before .before .before .before .before .before .before .before .before .before .before .before .before .before .before .before .before .before .before .loop .inv .draft .lens), omega (arith, c .before .before .before .before .before .before .before .before .before .before .before .before .before .before .before .before .before .before .before .before .before .before .before .before .before .before .before .before .before .before .before .loop .inv .draft .names))
+row-at-requires-2 c κs =
+    let h = held (c .before .before .before .before .before .before .before) in
+    let K = turn (h .before) .before .loop .inv in
+    let w = held-place h in
+    (omega (arith, K .draft .lens), omega (arith, K .draft .names))
 
 sub-on-held-5 : tie.Need-sub-on-held-5 Inv-loop μ-loop
-sub-on-held-5 c = let w = fits (c .before .before .before .before .before .before .before .before .before .before .before .before .before .before .before .before .before .before .before .before .before .before .before .before .before .before .before .before .before .before .before) in omega arith
+sub-on-held-5 c = let w = fits (turn (held (set-row c) .before)) in omega arith
 
 part-on-held-start : tie.Need-part-on-held-start Inv-loop μ-loop
-part-on-held-start c = let w = fits (c .before .before .before .before .before .before .before .before .before .before .before .before .before .before .before .before .before .before .before .before .before .before .before .before .before .before .before .before .before .before .before) in omega arith
+part-on-held-start c = let w = fits (turn (held (set-row c) .before)) in omega arith
 
 part-on-held-end : tie.Need-part-on-held-end Inv-loop μ-loop
-part-on-held-end c = let w = fits (c .before .before .before .before .before .before .before .before .before .before .before .before .before .before .before .before .before .before .before .before .before .before .before .before .before .before .before .before .before .before .before) in omega arith
+part-on-held-end c = let w = fits (turn (held (set-row c) .before)) in omega arith
 
 on-held-requires : tie.Need-on-held-requires Inv-loop μ-loop
 on-held-requires c κs =
-    let h = c .before .before .before .before .before .before .before .before .before .before .before .before .before .before .before .before .before in
+    let h = held (set-row (c .before)) in
     let s = h .before in
     let K = turn s .before .loop .inv in
     let w = held-place h in (
@@ -253,45 +295,55 @@ on-held-requires c κs =
     )
 
 mul-shown : tie.Need-mul-shown Inv-loop μ-loop
-mul-shown c = let w = held-place (c .before .before .before .before .before .before .before .before .before .before .before .before .before .before .before .before .before .before .before .before .before .before) in omega arith
+mul-shown c = let w = held-place (stepped c) in omega arith
 
 element-write-shown : tie.Need-element-write-shown Inv-loop μ-loop
-element-write-shown c = let w = held-place (c .before .before .before .before .before .before .before .before .before .before .before .before .before .before .before .before .before .before .before .before .before .before) in omega arith
+element-write-shown c = let w = held-place (stepped c) in omega arith
 
 element-write-shown-2 : tie.Need-element-write-shown-2 Inv-loop μ-loop
-element-write-shown-2 c = let w = held-place (c .before .before .before .before .before .before .before .before .before .before .before .before .before .before .before .before .before .before .before .before .before .before) in omega arith
+element-write-shown-2 c = let w = held-place (stepped c) in omega arith
+
+element-write-shown-3 : tie.Need-element-write-shown-3 Inv-loop μ-loop
+element-write-shown-3 c = let w = held-place (stepped c) in omega arith
 
 mul-draft : tie.Need-mul-draft Inv-loop μ-loop
-mul-draft c = let w = held-place (c .before .before .before .before .before .before .before .before .before .before .before .before .before .before .before .before .before .before .before .before .before .before) in omega arith
+mul-draft c = let w = held-place (stepped c) in omega arith
 
 element-write-draft : tie.Need-element-write-draft Inv-loop μ-loop
-element-write-draft c = let w = held-place (c .before .before .before .before .before .before .before .before .before .before .before .before .before .before .before .before .before .before .before .before .before .before) in omega arith
+element-write-draft c = let w = held-place (stepped c) in omega arith
 
 element-write-draft-2 : tie.Need-element-write-draft-2 Inv-loop μ-loop
-element-write-draft-2 c = let w = held-place (c .before .before .before .before .before .before .before .before .before .before .before .before .before .before .before .before .before .before .before .before .before .before) in omega arith
+element-write-draft-2 c = let w = held-place (stepped c) in omega arith
 
-element-write-head : tie.Need-element-write-head Inv-loop μ-loop
-element-write-head c = let w = held-place (c .before .before .before .before .before .before .before .before .before .before .before .before .before .before .before .before .before .before .before .before .before .before .before) in omega arith
+element-write-draft-3 : tie.Need-element-write-draft-3 Inv-loop μ-loop
+element-write-draft-3 c = let w = held-place (stepped c) in omega arith
+
+array-write-on : tie.Need-array-write-on Inv-loop μ-loop
+array-write-on c = let w = held-place (stepped (c .before)) in omega arith
 
 noted-requires : tie.Need-noted-requires Inv-loop μ-loop
-noted-requires c κs = fits (c .before .before .before .before .before .before .before .before .before .before .before .before .before .before .before .before .before .before .before .before .before .before .before .before .before .before .before .before .before .before .before .before .before .before .before .before .before .before) .few
+noted-requires c κs = fits (turn (stepped (c .before) .before)) .few
 
 add-i : tie.Need-add-i Inv-loop μ-loop
-add-i c = record { fits = next-fits _ (fits (c .before .before .before .before .before .before .before .before .before .before .before .before .before .before .before .before .before .before .before .before .before .before .before .before .before .before .before .before .before .before .before .before .before .before .before .before .before .before .before) .few) }
+add-i c = record { fits = next-fits _ (fits (turn (stepped (c .before .before) .before)) .few) }
 
 loop-less : tie.Need-loop-less Inv-loop μ-loop
-loop-less c = let w = c .before .before .before .before .before .before .before .before .before .before .before .before .before .before .before .before .before .before .before .before .before .before .before .before .before .before .before .before .before .before .before .before .before .before .before .before .before .before .before .if1 .taken in omega arith
+loop-less c = let w = turn (stepped (c .before .before) .before) .if1 .taken in omega arith
 
 loop-again : tie.Need-loop-again Inv-loop μ-loop
 loop-again c =
-    let y = c .before .before .before .before .before .before .on-held .last in
-    let h = c .before .before .before .before .before .before .before .before .before .before .before .before .before .before .before .before .before .before .before .before .before .before .before .before in
+    let rows = c .before .before in
+    let after = rows .before .before .before .before in
+    let y = after .on-held .last in
+    let h = stepped rows in
     let s = h .before in
     let K = turn s .before .loop .inv in
+    let p = placed s .place-of .result in
     let w = held-place h in
-    kept-held K (turn s .if1 .taken) _ (body-is (turn s)) _ (read s .field .ensures) _ (keyed s .key .ensures) _ (placed s .place-of .ensures) _ (sym (s .stands-at .ensures) ∙ h .if2 .taken) w _ (row-size (placed s .place-of .result)) _ _ (c .before .before .before .before .before .before .before .before .before .before .before .before .before .before .before .before .row-at .ensures) (c .before .before .before .before .before .before .before .before .row-at2 .ensures) (c .before .before .before .before .before .before .on-held .result) (y .0) (y .1 .0) (y .1 .1 .1 .0) (y .1 .1 .1 .1 .0)
-    (c .before .before .before .before .before .before .on-held .ensures) (c .before .before .before .before .before .sn4 .given ∙ part-long _ _ (row-size (placed s .place-of .result)) w _ (K .shown .numbers)) (c .before .before .before .before .sk4 .given ∙ part-long _ _ (row-size (placed s .place-of .result)) w _ (K .shown .kinds))
-    (c .before .before .before .dn4 .given ∙ part-long _ _ (row-size (placed s .place-of .result)) w _ (K .draft .numbers)) (c .before .before .dk4 .given ∙ part-long _ _ (row-size (placed s .place-of .result)) w _ (K .draft .kinds)) (c .noted .ensures)
+    kept-held K (turn s .if1 .taken) _ (body-is (turn s)) _ (read s .field .ensures) _ (keyed s .key .ensures) _ (placed s .place-of .ensures) _ (sym (s .stands-at .ensures) ∙ h .if2 .taken) w _ (row-size p) _ _
+    (set-row (both-rows rows) .row-at .ensures) (both-rows rows .row-at2 .ensures) (after .on-held .result) (y .0) (y .1 .0) (y .1 .1 .1 .0) (y .1 .1 .1 .1 .0) (after .on-held .ensures)
+    (rows .before .before .before .sn4 .given ∙ part-long _ _ (row-size p) w _ (K .shown .numbers)) (rows .before .before .sk4 .given ∙ part-long _ _ (row-size p) w _ (K .shown .kinds))
+    (rows .before .dn4 .given ∙ part-long _ _ (row-size p) w _ (K .draft .numbers)) (rows .dk4 .given ∙ part-long _ _ (row-size p) w _ (K .draft .kinds)) (c .noted .ensures)
 
 opens-requires : tie.Need-opens-requires Inv-loop μ-loop
 opens-requires c κs = search needs
@@ -306,72 +358,75 @@ slice-aggregate-sets-of-3 : tie.Need-slice-aggregate-sets-of-3 Inv-loop μ-loop
 slice-aggregate-sets-of-3 c = search needs
 
 slice-aggregate-sets-of-4 : tie.Need-slice-aggregate-sets-of-4 Inv-loop μ-loop
-slice-aggregate-sets-of-4 c = search needs
+slice-aggregate-sets-of-4 c = sym (turn (c .before .before .before .before .before .before .before) .before .loop .inv .draft .kinds)
 
 sets-of-requires : tie.Need-sets-of-requires Inv-loop μ-loop
-sets-of-requires c κs = (c .before .before .before .before .before .before .before .before .before .before .before .before .before .before .before .before .before .before .before .before .before .before .loop .inv .shown .numbers, c .before .before .before .before .before .before .before .before .before .before .before .before .before .before .before .before .before .before .before .before .before .before .loop .inv .shown .kinds, c .before .before .before .before .before .before .before .before .before .before .before .before .before .before .before .before .before .before .before .before .before .before .loop .inv .draft .numbers, c .before .before .before .before .before .before .before .before .before .before .before .before .before .before .before .before .before .before .before .before .before .before .loop .inv .draft .kinds)
+sets-of-requires c κs =
+    let K = turn (c .before .before .before .before .before .before .before) .before .loop .inv in
+    (K .shown .numbers, K .shown .kinds, K .draft .numbers, K .draft .kinds, K .shown-laid, K .draft-laid)
 
 sub-opened : tie.Need-sub-opened Inv-loop μ-loop
-sub-opened c = let w = fits (c .before .before .before .before .before .before .before .before .before .before .before .before .before .before .before .before .before .before .before .before .before .before) in omega arith
+sub-opened c = let w = fits (turn (new-key c .before)) in omega arith
 
 part-opened-start : tie.Need-part-opened-start Inv-loop μ-loop
-part-opened-start c = let w = fits (c .before .before .before .before .before .before .before .before .before .before .before .before .before .before .before .before .before .before .before .before .before .before) in omega arith
+part-opened-start c = let w = fits (turn (new-key c .before)) in omega arith
 
 part-opened-end : tie.Need-part-opened-end Inv-loop μ-loop
-part-opened-end c = let w = fits (c .before .before .before .before .before .before .before .before .before .before .before .before .before .before .before .before .before .before .before .before .before .before) in omega arith
+part-opened-end c = let w = fits (turn (new-key c .before)) in omega arith
 
 opened-requires : tie.Need-opened-requires Inv-loop μ-loop
 opened-requires c κs = search needs
 
-head-of-requires-2 : tie.Need-head-of-requires-2 Inv-loop μ-loop
-head-of-requires-2 c κs = search needs
-
 slice-aggregate-scatter-5 : tie.Need-slice-aggregate-scatter-5 Inv-loop μ-loop
-slice-aggregate-scatter-5 c = sym (c .before .before .before .before .before .before .before .before .before .before .before .before .before .before .before .before .before .before .before .before .before .before .before .before .before .before .before .before .loop .inv .shown .numbers)
+slice-aggregate-scatter-5 c = sym (turn (new-key (gathered-now (c .before .before .before)) .before) .before .loop .inv .shown .numbers)
 
 slice-aggregate-scatter-6 : tie.Need-slice-aggregate-scatter-6 Inv-loop μ-loop
-slice-aggregate-scatter-6 c = sym (c .before .before .before .before .before .before .before .before .before .before .before .before .before .before .before .before .before .before .before .before .before .before .before .before .before .before .before .before .before .loop .inv .shown .kinds)
+slice-aggregate-scatter-6 c = sym (opening c .before .loop .inv .shown .kinds)
 
 scatter-requires-3 : tie.Need-scatter-requires-3 Inv-loop μ-loop
-scatter-requires-3 c κs = (c .before .before .before .before .before .before .before .before .before .before .before .before .before .before .before .before .before .before .before .before .before .before .before .before .before .before .before .before .before .loop .inv .shown .numbers, c .before .before .before .before .before .before .before .before .before .before .before .before .before .before .before .before .before .before .before .before .before .before .before .before .before .before .before .before .before .loop .inv .shown .kinds)
+scatter-requires-3 c κs = let K = opening c .before .loop .inv in (K .shown .numbers, K .shown .kinds)
 
 slice-aggregate-scatter-7 : tie.Need-slice-aggregate-scatter-7 Inv-loop μ-loop
-slice-aggregate-scatter-7 c = sym (c .before .before .before .before .before .before .before .before .before .before .before .before .before .before .before .before .before .before .before .before .before .before .before .before .before .before .before .before .before .before .before .before .before .before .loop .inv .draft .numbers)
+slice-aggregate-scatter-7 c = sym (opening (c .before .before .before .before .before) .before .loop .inv .draft .numbers)
 
 slice-aggregate-scatter-8 : tie.Need-slice-aggregate-scatter-8 Inv-loop μ-loop
-slice-aggregate-scatter-8 c = sym (c .before .before .before .before .before .before .before .before .before .before .before .before .before .before .before .before .before .before .before .before .before .before .before .before .before .before .before .before .before .before .before .before .before .before .before .loop .inv .draft .kinds)
+slice-aggregate-scatter-8 c = sym (opening (sets-laid c) .before .loop .inv .draft .kinds)
 
 scatter-requires-4 : tie.Need-scatter-requires-4 Inv-loop μ-loop
-scatter-requires-4 c κs = (c .before .before .before .before .before .before .before .before .before .before .before .before .before .before .before .before .before .before .before .before .before .before .before .before .before .before .before .before .before .before .before .before .before .before .before .loop .inv .draft .numbers, c .before .before .before .before .before .before .before .before .before .before .before .before .before .before .before .before .before .before .before .before .before .before .before .before .before .before .before .before .before .before .before .before .before .before .before .loop .inv .draft .kinds)
+scatter-requires-4 c κs = let K = opening (sets-laid c) .before .loop .inv in (K .draft .numbers, K .draft .kinds)
 
 noted-requires-2 : tie.Need-noted-requires-2 Inv-loop μ-loop
-noted-requires-2 c κs = fits (c .before .before .before .before .before .before .before .before .before .before .before .before .before .before .before .before .before .before .before .before .before .before .before .before .before .before .before .before .before .before .before .before .before .before .before .before .before) .few
+noted-requires-2 c κs = fits (opening (sets-laid (c .before .before .before))) .few
 
 add-i-2 : tie.Need-add-i-2 Inv-loop μ-loop
-add-i-2 c = record { fits = next-fits _ (fits (c .before .before .before .before .before .before .before .before .before .before .before .before .before .before .before .before .before .before .before .before .before .before .before .before .before .before .before .before .before .before .before .before .before .before .before .before .before .before) .few) }
+add-i-2 c = record { fits = next-fits _ (fits (opening (sets-laid (c .before .before .before .before))) .few) }
 
 loop-less-2 : tie.Need-loop-less-2 Inv-loop μ-loop
-loop-less-2 c = let w = c .before .before .before .before .before .before .before .before .before .before .before .before .before .before .before .before .before .before .before .before .before .before .before .before .before .before .before .before .before .before .before .before .before .before .before .before .before .before .if1 .taken in omega arith
+loop-less-2 c = let w = opening (sets-laid (c .before .before .before .before)) .if1 .taken in omega arith
 
 loop-again-2 : tie.Need-loop-again-2 Inv-loop μ-loop
 loop-again-2 c =
-    let h = c .before .before .before .before .before .before .before .before .before .before .before .before .before .before .before .before .before .before .before .before .before .before .before in
+    let again = sets-laid (c .before .before .before .before) in
+    let open' = opened-now again in
+    let g = gathered-now open' in
+    let h = new-key g in
     let s = h .before in
-    kept-new (turn s .before .loop .inv) (turn s .if1 .taken) _ (body-is (turn s)) _ (read s .field .ensures) _ (keyed s .key .ensures) _ (placed s .place-of .ensures) _ (sym (s .stands-at .ensures) ∙ h .if2 .left) (sym (c .before .before .before .before .before .before .before .before .before .before .before .before .before .before .before .before .before .before .before .before .before .before .opens .ensures) ∙ c .before .before .before .before .before .before .before .before .before .before .before .before .before .before .before .before .before .before .before .before .before .if3 .taken) (bytes-of (turn s .before))
-    (c .before .before .before .before .before .before .before .before .before .before .before .before .before .before .opened .result) (c .before .before .before .before .before .before .before .before .before .before .before .before .before .before .before .before .sets-of .result) (c .before .before .before .before .before .before .before .before .before .before .before .before .before .before .before .before .sets-of .ensures) (c .before .before .before .before .before .before .before .before .before .before .before .before .before .before .opened .ensures) _ (c .before .before .before .before .before .before .before .before .before .before .before .before .before .head-of2 .ensures) _ _ _ _ _ _
+    let asked = g .before .before .before .before .before .before in
+    kept-new (turn s .before .loop .inv) (turn s .if1 .taken) _ (body-is (turn s)) _ (read s .field .ensures) _ (keyed s .key .ensures) _ (placed s .place-of .ensures) _ (sym (s .stands-at .ensures) ∙ h .if2 .left)
+    (sym (asked .opens .ensures) ∙ g .before .before .before .before .before .if3 .taken) (bytes-of (turn s .before)) (open' .opened .result) (g .sets-of .result) (g .sets-of .ensures) (open' .opened .ensures) _ _ _ _ _ _
     (c .before .before .before .before .before .before .before .before .before .scatter3 .ensures) (c .before .before .before .scatter4 .ensures) (c .noted2 .ensures)
 
 unheld-note-requires : tie.Need-unheld-note-requires Inv-loop μ-loop
 unheld-note-requires c κs = search needs
 
 noted-requires-3 : tie.Need-noted-requires-3 Inv-loop μ-loop
-noted-requires-3 c κs = fits (c .before .before .before .before .before .before .before .before .before .before .before .before .before .before .before .before .before .before) .few
+noted-requires-3 c κs = fits (turn (c .before .before .before .before)) .few
 
 add-i-3 : tie.Need-add-i-3 Inv-loop μ-loop
-add-i-3 c = record { fits = next-fits _ (fits (c .before .before .before .before .before .before .before .before .before .before .before .before .before .before .before .before .before .before .before) .few) }
+add-i-3 c = record { fits = next-fits _ (fits (turn (c .before .before .before .before .before)) .few) }
 
 loop-less-3 : tie.Need-loop-less-3 Inv-loop μ-loop
-loop-less-3 c = let w = c .before .before .before .before .before .before .before .before .before .before .before .before .before .before .before .before .before .before .before .if1 .taken in omega arith
+loop-less-3 c = let w = turn (c .before .before .before .before .before) .if1 .taken in omega arith
 
 loop-again-3 : tie.Need-loop-again-3 Inv-loop μ-loop
 loop-again-3 c =
@@ -395,7 +450,7 @@ slice-aggregate-sets-of-8 : tie.Need-slice-aggregate-sets-of-8 Inv-loop μ-loop
 slice-aggregate-sets-of-8 c = search needs
 
 sets-of-requires-2 : tie.Need-sets-of-requires-2 Inv-loop μ-loop
-sets-of-requires-2 c κs = (c .before .before .before .before .before .before .loop .inv .shown .numbers, c .before .before .before .before .before .before .loop .inv .shown .kinds, c .before .before .before .before .before .before .loop .inv .draft .numbers, c .before .before .before .before .before .before .loop .inv .draft .kinds)
+sets-of-requires-2 c κs = let K = c .before .before .before .before .before .before .loop .inv in (K .shown .numbers, K .shown .kinds, K .draft .numbers, K .draft .kinds, K .shown-laid, K .draft-laid)
 
 of-requires : tie.Need-of-requires Inv-loop μ-loop
 of-requires c κs = search needs
@@ -462,7 +517,6 @@ run-blocks-spec =
     slice-aggregate-scatter-3
     slice-aggregate-scatter-4
     scatter-requires-2
-    head-of-requires
     none-requires
     to-requires
     no-spots-requires
@@ -505,10 +559,12 @@ run-blocks-spec =
     mul-shown
     element-write-shown
     element-write-shown-2
+    element-write-shown-3
     mul-draft
     element-write-draft
     element-write-draft-2
-    element-write-head
+    element-write-draft-3
+    array-write-on
     noted-requires
     add-i
     loop-less
@@ -523,7 +579,6 @@ run-blocks-spec =
     part-opened-start
     part-opened-end
     opened-requires
-    head-of-requires-2
     slice-aggregate-scatter-5
     slice-aggregate-scatter-6
     scatter-requires-3

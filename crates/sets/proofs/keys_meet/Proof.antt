@@ -1,9 +1,10 @@
 -- `sets::keys_meet` meets its contract: the keys from the present place on, after the last one passed, answer for all of them.
 use Prim.Native.Nat.{_-_, min}
-use mathlib.Core.Path.{_≡_, refl}
+use mathlib.Core.Path.{_≡_, refl, sym, _∙_}
 use lib.ListN.{length, take, drop}
 use Rattle.sets.specs.Places.{keysMeet}
-use Rattle.sets.proofs.Loops.{keys-next, keys-not-after, keys-not-below, keys-not-numbered, keys-end}
+use Rattle.sets.proofs.Loops.{keys-next, keys-not-after, keys-not, keys-end}
+use borrow.Author.Tests.{not-true, not-false}
 use borrow.Author.Needs.{needs}
 use Rattle.sets.proofs.keys_meet.Statement.{statement}
 use Rattle.sets.proofs.keys_meet.Tie as tie
@@ -32,11 +33,11 @@ shared-slice-read-key c = search needs
 returns : tie.Need-returns Inv-loop μ-loop
 returns c = keys-not-after _ (c .before .before .before .before .before .before .args .count) _ _ _ (c .before .before .before .loop .inv .0) (c .before .before .loop-test .taken) (c .if1 .taken) (c .before .before .before .loop .inv .1)
 
-returns-2 : tie.Need-returns-2 Inv-loop μ-loop
-returns-2 c = keys-not-below _ (c .before .before .before .before .before .before .before .args .count) _ _ _ (c .before .before .before .before .loop .inv .0) (c .before .before .before .loop-test .taken) (c .before .if1 .left) (c .if2 .taken) (c .before .before .before .before .loop .inv .1)
+is-key-requires : tie.Need-is-key-requires Inv-loop μ-loop
+is-key-requires c κs = search needs
 
-returns-3 : tie.Need-returns-3 Inv-loop μ-loop
-returns-3 c = keys-not-numbered _ (c .before .before .before .before .before .before .before .before .args .count) _ _ _ (c .before .before .before .before .before .loop .inv .0) (c .before .before .before .before .loop-test .taken) (c .before .before .if1 .left) (c .before .if2 .left) (c .if3 .taken) (c .before .before .before .before .before .loop .inv .1)
+returns-2 : tie.Need-returns-2 Inv-loop μ-loop
+returns-2 c = keys-not _ (c .before .before .before .before .before .before .before .before .args .count) _ _ _ (c .before .before .before .before .before .loop .inv .0) (c .before .before .before .before .loop-test .taken) (c .before .before .if1 .left) (sym (c .before .is-key .ensures) ∙ not-true _ (c .if2 .taken)) (c .before .before .before .before .before .loop .inv .1)
 
 add-i : tie.Need-add-i Inv-loop μ-loop
 add-i c = search needs
@@ -45,10 +46,10 @@ loop-less : tie.Need-loop-less Inv-loop μ-loop
 loop-less c = search needs
 
 loop-again : tie.Need-loop-again Inv-loop μ-loop
-loop-again c = (c .before .before .before .before .before .loop .inv .0, keys-next _ (c .before .before .before .before .before .before .before .before .args .count) _ _ _ (c .before .before .before .before .before .loop .inv .0) (c .before .before .before .before .loop-test .taken) (c .before .before .if1 .left) (c .before .if2 .left) (c .if3 .left) (c .before .before .before .before .before .loop .inv .1))
+loop-again c = (c .before .before .before .before .before .loop .inv .0, keys-next _ (c .before .before .before .before .before .before .before .before .args .count) _ _ _ (c .before .before .before .before .before .loop .inv .0) (c .before .before .before .before .loop-test .taken) (c .before .before .if1 .left) (sym (c .before .is-key .ensures) ∙ not-false _ (c .if2 .left)) (c .before .before .before .before .before .loop .inv .1))
 
-returns-4 : tie.Need-returns-4 Inv-loop μ-loop
-returns-4 c = keys-end _ (c .before .before .before .before .args .count) _ _ _ (c .before .loop .inv .0) (c .loop-test .left) (c .before .loop .inv .1)
+returns-3 : tie.Need-returns-3 Inv-loop μ-loop
+returns-3 c = keys-end _ (c .before .before .before .before .args .count) _ _ _ (c .before .loop .inv .0) (c .loop-test .left) (c .before .loop .inv .1)
 
 pub keys-meet-spec : {M : Type 1} → statement M
 keys-meet-spec =
@@ -61,9 +62,9 @@ keys-meet-spec =
     mul-key
     shared-slice-read-key
     returns
+    is-key-requires
     returns-2
-    returns-3
     add-i
     loop-less
     loop-again
-    returns-4)
+    returns-3)

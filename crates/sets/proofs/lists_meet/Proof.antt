@@ -5,6 +5,7 @@ use mathlib.Core.Path.{refl}
 use lib.ListN.{getD}
 use borrow.Author.Count.{below-more}
 use borrow.Author.Tests.{not-true, not-false}
+use Rattle.rules.specs.Collecting.{mostKeys}
 use Rattle.lists.specs.Stored.{Holds}
 use Rattle.lists.proofs.StoredLaws.{refuted, passed, fails}
 use Rattle.sets.specs.Stored.{EachHolds, past}
@@ -16,10 +17,10 @@ use Rattle.sets.proofs.lists_meet.Lts as lts
 use Rattle.lists.proofs.IdList.meets.Reads as meets-reads
 
 abbrev Inv-loop : tie.InvT-loop
-Inv-loop keys lists i₀ i = (i ≤ 32) × ((k : ℕ) → k < i → Holds (getD keys k 0) (getD lists k past))
+Inv-loop keys lists i₀ i = (i ≤ mostKeys) × ((k : ℕ) → k < i → Holds (getD keys k 0) (getD lists k past))
 
 abbrev μ-loop : tie.MeasureT-loop
-μ-loop keys lists i₀ i = 32 - i
+μ-loop keys lists i₀ i = mostKeys - i
 
 loop-holds : tie.Need-loop-holds Inv-loop μ-loop
 loop-holds c = (omega arith, λ k h. absurd (omega arith))

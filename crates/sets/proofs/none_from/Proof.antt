@@ -4,6 +4,7 @@ use native.Mathlib.Omega.{arith}
 use mathlib.Core.Path.{_≡_}
 use lib.ListN.{getD}
 use borrow.Author.Count.{below-more}
+use Rattle.rules.specs.Collecting.{mostKeys}
 use Rattle.lists.proofs.StoredLaws.{refuted, passed}
 use Rattle.sets.specs.Stored.{NoneFrom, past}
 use borrow.Author.Needs.{needs}
@@ -16,7 +17,7 @@ abbrev Inv-loop : tie.InvT-loop
 Inv-loop from lists i₀ i = (from ≤ i) × ((k : ℕ) → k < i → from ≤ k → getD lists k past .len ≡ 0)
 
 abbrev μ-loop : tie.MeasureT-loop
-μ-loop from lists i₀ i = 32 - i
+μ-loop from lists i₀ i = mostKeys - i
 
 loop-holds : tie.Need-loop-holds Inv-loop μ-loop
 loop-holds c = (omega arith, λ k h g. absurd (omega arith))

@@ -3,11 +3,12 @@ use Prim.Native.Nat.{_-_, _<_, _≤_}
 use native.Mathlib.Omega.{arith}
 use mathlib.Core.Path.{_≡_, refl, ap, _∙_}
 use lib.ListN.{length, set}
+use Rattle.rules.specs.Collecting.{mostKeys}
 use Rattle.rules.proofs.Basics.{length-of-map}
 use Rattle.lists.specs.Stored.{emptyList}
-use Rattle.sets.specs.Places.{shut}
+use Rattle.rules.specs.Arrays.{shut}
 use Rattle.sets.specs.Stored.{past}
-use Rattle.sets.proofs.Shifts.{blend, shut-first, shut-next, shut-end}
+use Rattle.rules.proofs.Shifts.{blend, shut-first, shut-next, shut-end}
 use borrow.Author.Needs.{needs}
 use Rattle.sets.proofs.shut_list.Statement.{statement}
 use Rattle.sets.proofs.shut_list.Tie as tie
@@ -16,13 +17,13 @@ use Rattle.sets.proofs.shut_list.Lts as lts
 use Rattle.lists.proofs.IdList.empty.Reads as empty-reads
 
 abbrev Inv-loop : tie.InvT-loop
-Inv-loop at xs ys₀ j₀ ys j = (at ≤ j) × ((j < 32) × (ys ≡ blend j (shut at emptyList xs) xs))
+Inv-loop at xs ys₀ j₀ ys j = (at ≤ j) × ((j < mostKeys) × (ys ≡ blend j (shut at emptyList xs) xs))
 
 abbrev μ-loop : tie.MeasureT-loop
-μ-loop at xs ys₀ j₀ ys j = 32 - j
+μ-loop at xs ys₀ j₀ ys j = mostKeys - j
 
 loop-holds : tie.Need-loop-holds Inv-loop μ-loop
-loop-holds c = let l : length (c .args .t1) ≡ 32 = search (length-of-map, needs) in (omega arith, (c .pre, shut-first 32 _ _ _ l (c .pre)))
+loop-holds c = let l : length (c .args .t1) ≡ mostKeys = search (length-of-map, needs) in (omega arith, (c .pre, shut-first mostKeys _ _ _ l (c .pre)))
 
 add-x : tie.Need-add-x Inv-loop μ-loop
 add-x c = search needs
@@ -46,7 +47,7 @@ loop-less : tie.Need-loop-less Inv-loop μ-loop
 loop-less c = search needs
 
 loop-again : tie.Need-loop-again Inv-loop μ-loop
-loop-again c = let l : length (c .before .before .before .args .t1) ≡ 32 = search (length-of-map, needs) in (omega arith, (omega arith, shut-next 32 _ _ _ l (c .before .before .before .pre) _ _ past (c .before .before .loop .inv .0) (omega arith) (c .before .before .loop .inv .1 .1)))
+loop-again c = let l : length (c .before .before .before .args .t1) ≡ mostKeys = search (length-of-map, needs) in (omega arith, (omega arith, shut-next mostKeys _ _ _ l (c .before .before .before .pre) _ _ past (c .before .before .loop .inv .0) (omega arith) (c .before .before .loop .inv .1 .1)))
 
 empty-requires : tie.Need-empty-requires Inv-loop μ-loop
 empty-requires c κs = search needs
@@ -56,9 +57,9 @@ array-set-from-ys-2 c = search needs
 
 returns : tie.Need-returns Inv-loop μ-loop
 returns c =
-    let l : length (c .before .before .before .args .t1) ≡ 32 = search (length-of-map, needs) in
+    let l : length (c .before .before .before .args .t1) ≡ mostKeys = search (length-of-map, needs) in
     ap (set (c .before .before .loop .ys) 31) (c .empty .ensures)
-    ∙ shut-end 32 _ _ _ l (c .before .before .before .pre) (c .before .before .loop .ys) (c .before .before .loop .j) 31 (c .before .before .loop .inv .0) (omega arith) refl (c .before .before .loop .inv .1 .1)
+    ∙ shut-end mostKeys _ _ _ l (c .before .before .before .pre) (c .before .before .loop .ys) (c .before .before .loop .j) 31 (c .before .before .loop .inv .0) (omega arith) refl (c .before .before .loop .inv .1 .1)
 
 pub shut-list-spec : {M : Type 1} → statement M
 shut-list-spec =

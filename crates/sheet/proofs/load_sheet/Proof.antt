@@ -6,6 +6,9 @@ use borrow.Author.Needs.{needs}
 use Rattle.sheet.proofs.load_sheet.Statement.{statement}
 use Rattle.sheet.proofs.load_sheet.Tie as tie
 
+cast-read-at-most : tie.Need-cast-read-at-most
+cast-read-at-most c = search needs
+
 read-at-most-requires : tie.Need-read-at-most-requires
 read-at-most-requires c κs = search needs
 
@@ -56,6 +59,7 @@ pub load-sheet-spec : {M : Type 1} → statement M
 load-sheet-spec =
     tie.close
     (tie.spec
+    cast-read-at-most
     read-at-most-requires
     enum-known-count
     enum-told

@@ -3,6 +3,7 @@ use Prim.Native.Nat.{_+_, _-_, _≤_}
 use native.Mathlib.Omega.{arith}
 use mathlib.Core.Path.{_≡_, ap}
 use lib.ListN.{length, drop}
+use Rattle.rules.specs.Collecting.{mostIds}
 use Rattle.layout.specs.Sheet.{sheetPairs}
 use Rattle.sheet.proofs.Writes.{pairsOf, pairs-size, pairs-end, size-here}
 use borrow.Author.Needs.{needs}
@@ -16,7 +17,7 @@ abbrev μ-loop : tie.MeasureT-loop
 μ-loop list len size₀ i₀ size i = len - i
 
 -- the arrays are full
-long : (c : tie.Start Inv-loop μ-loop) → (length (c .args .t1 .kinds) ≡ 128) × (length (c .args .t1 .numbers) ≡ 128)
+long : (c : tie.Start Inv-loop μ-loop) → (length (c .args .t1 .kinds) ≡ mostIds) × (length (c .args .t1 .numbers) ≡ mostIds)
 long c = (search needs, search needs)
 
 -- one identifier more is counted

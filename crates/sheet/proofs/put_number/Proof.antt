@@ -15,11 +15,11 @@ Inv-loop out₀ at n p₀ q₀ out p q = (rest : List ℕ) × Grouped q rest × 
 abbrev μ-loop : tie.MeasureT-loop
 μ-loop out₀ at n p₀ q₀ out p q = q
 
-cut-to-requires : tie.Need-cut-to-requires Inv-loop μ-loop
-cut-to-requires c κs = search needs
+least-requires : tie.Need-least-requires Inv-loop μ-loop
+least-requires c κs = search needs
 
 loop-holds : tie.Need-loop-holds Inv-loop μ-loop
-loop-holds c = (sheetNumber (c .before .before .args .n), grouped-start _ (c .before .before .fits .n .fits), going-start _ _ _ _ (c .cut-to .ensures))
+loop-holds c = (sheetNumber (c .before .before .args .n), grouped-start _ (c .before .before .fits .n .fits), going-start _ _ _ _ (c .least .ensures))
 
 add-put : tie.Need-add-put Inv-loop μ-loop
 add-put c = search needs
@@ -61,7 +61,7 @@ put-number-spec =
     (tie.spec
     Inv-loop
     μ-loop
-    cut-to-requires
+    least-requires
     loop-holds
     add-put
     cast-put

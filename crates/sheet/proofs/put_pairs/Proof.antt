@@ -2,6 +2,7 @@
 use Prim.Native.Nat.{_-_}
 use mathlib.Core.Path.{_≡_, refl}
 use lib.ListN.{length, drop}
+use Rattle.rules.specs.Collecting.{mostIds}
 use Rattle.layout.specs.Sheet.{sheetPairs}
 use Rattle.out.proofs.Runs.{Going, going-start, going-on, going-end}
 use Rattle.sheet.proofs.Writes.{pairsOf, pairs-here, pairs-end}
@@ -16,14 +17,14 @@ abbrev μ-loop : tie.MeasureT-loop
 μ-loop out₀ at list len p₀ i₀ out p i = len - i
 
 -- the arrays are full
-long : (c : tie.Start Inv-loop μ-loop) → (length (c .args .t3 .kinds) ≡ 128) × (length (c .args .t3 .numbers) ≡ 128)
+long : (c : tie.Start Inv-loop μ-loop) → (length (c .args .t3 .kinds) ≡ mostIds) × (length (c .args .t3 .numbers) ≡ mostIds)
 long c = (search needs, search needs)
 
-cut-to-requires : tie.Need-cut-to-requires Inv-loop μ-loop
-cut-to-requires c κs = search needs
+least-requires : tie.Need-least-requires Inv-loop μ-loop
+least-requires c κs = search needs
 
 loop-holds : tie.Need-loop-holds Inv-loop μ-loop
-loop-holds c = going-start _ _ _ _ (c .cut-to .ensures)
+loop-holds c = going-start _ _ _ _ (c .least .ensures)
 
 element-copy-out-put-number : tie.Need-element-copy-out-put-number Inv-loop μ-loop
 element-copy-out-put-number c = search needs
@@ -70,7 +71,7 @@ put-pairs-spec =
     (tie.spec
     Inv-loop
     μ-loop
-    cut-to-requires
+    least-requires
     loop-holds
     element-copy-out-put-number
     cast-put-number

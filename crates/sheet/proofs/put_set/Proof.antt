@@ -1,6 +1,7 @@
 -- `sheet::put_set` meets its contract: its numbers and its identifiers, one after another.
 use mathlib.Core.Path.{_≡_, sym, ap}
 use lib.ListN.{length}
+use Rattle.rules.specs.Collecting.{mostIds}
 use Rattle.layout.specs.Sheet.{sheetNumber, sheetSet}
 use Rattle.out.specs.Put.{Puts}
 use Rattle.out.proofs.Runs.{puts-as, puts-then, puts-length}
@@ -11,7 +12,7 @@ use Rattle.sheet.proofs.put_set.Statement.{statement}
 use Rattle.sheet.proofs.put_set.Tie as tie
 
 -- the arrays are full
-long : (c : tie.Start) → (length (c .args .list .kinds) ≡ 128) × (length (c .args .list .numbers) ≡ 128)
+long : (c : tie.Start) → (length (c .args .list .kinds) ≡ mostIds) × (length (c .args .list .numbers) ≡ mostIds)
 long c = (search needs, search needs)
 
 cast-named : tie.Need-cast-named

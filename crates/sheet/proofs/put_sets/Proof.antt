@@ -18,15 +18,15 @@ Inv-loop out₀ at table count p₀ i₀ out p i = Going out₀ at (sheetSets (s
 abbrev μ-loop : tie.MeasureT-loop
 μ-loop out₀ at table count p₀ i₀ out p i = count - i
 
-cut-to-requires : tie.Need-cut-to-requires Inv-loop μ-loop
-cut-to-requires c κs = search needs
+least-requires : tie.Need-least-requires Inv-loop μ-loop
+least-requires c κs = search needs
 
 loop-holds : tie.Need-loop-holds Inv-loop μ-loop
 loop-holds c =
     let a = c .before .before .args in
-    subst (λ rest. Going (a .out .now) (a .at) (sheetSets (setsIn (a .t3))) (a .out .now) (c .cut-to .result) rest)
+    subst (λ rest. Going (a .out .now) (a .at) (sheetSets (setsIn (a .t3))) (a .out .now) (c .least .result) rest)
     (sym (ap sheetSets (sets-all (a .t3) {n = a .t3 .count} (omega (arith, count-short _ (c .before .before .pre))))))
-    (going-start _ _ _ _ (c .cut-to .ensures))
+    (going-start _ _ _ _ (c .least .ensures))
 
 mul-list : tie.Need-mul-list Inv-loop μ-loop
 mul-list c = omega (arith, count-short _ (c .before .before .before .before .pre))
@@ -77,7 +77,7 @@ put-sets-spec =
     (tie.spec
     Inv-loop
     μ-loop
-    cut-to-requires
+    least-requires
     loop-holds
     mul-list
     element-copy-out-list

@@ -15,6 +15,9 @@ enum-known-count c = search needs
 returns : tie.Need-returns
 returns c = if-failed countFits _ _ _ _ (sym (c .before .before .count .given .1) ∙ c .before .before .before .before .read-number .ensures) (count-none _ (c .if1 .taken))
 
+cast-if2 : tie.Need-cast-if2
+cast-if2 c = search needs
+
 returns-2 : tie.Need-returns-2
 returns-2 c = if-failed countFits _ _ _ _ (sym (c .before .before .before .count .given .1) ∙ c .before .before .before .before .before .read-number .ensures) (count-large _ (c .before .if1 .left) (c .if2 .taken))
 
@@ -34,6 +37,7 @@ read-count-spec =
     read-number-requires
     enum-known-count
     returns
+    cast-if2
     returns-2
     enum-told
     returns-3

@@ -1,7 +1,8 @@
 -- `sheet::read_key` meets its contract.
 use mathlib.Core.Path.{sym, _∙_}
 use Rattle.layout.specs.Parse.{keyFits}
-use Rattle.sheet.proofs.Tests.{if-none, if-failed, if-passed, key-before, key-large, key-unnumbered, key-passes}
+use Rattle.sheet.proofs.Tests.{if-none, if-failed, if-passed, key-before, key-after}
+use borrow.Author.Tests.{not-true, not-false}
 use borrow.Author.Needs.{needs}
 use Rattle.sheet.proofs.read_key.Statement.{statement}
 use Rattle.sheet.proofs.read_key.Tie as tie
@@ -15,24 +16,24 @@ enum-known-key c = search needs
 returns : tie.Need-returns
 returns c = if-failed (keyFits _) _ _ _ _ (sym (c .before .before .key .given .1) ∙ c .before .before .before .before .read-number .ensures) (key-before _ _ (c .if1 .taken))
 
-returns-2 : tie.Need-returns-2
-returns-2 c = if-failed (keyFits _) _ _ _ _ (sym (c .before .before .before .key .given .1) ∙ c .before .before .before .before .before .read-number .ensures) (key-large _ _ (c .before .if1 .left) (c .if2 .taken))
+is-key-requires : tie.Need-is-key-requires
+is-key-requires c κs = search needs
 
-returns-3 : tie.Need-returns-3
-returns-3 c =
+returns-2 : tie.Need-returns-2
+returns-2 c =
     if-failed (keyFits _) _ _ _ _ (sym (c .before .before .before .before .key .given .1) ∙ c .before .before .before .before .before .before .read-number .ensures)
-    (key-unnumbered _ _ (c .before .before .if1 .left) (c .before .if2 .left) (c .if3 .taken))
+    (key-after _ _ (c .before .before .if1 .left) ∙ sym (c .before .is-key .ensures) ∙ not-true _ (c .if2 .taken))
 
 enum-told : tie.Need-enum-told
 enum-told c = search needs
 
-returns-4 : tie.Need-returns-4
-returns-4 c =
+returns-3 : tie.Need-returns-3
+returns-3 c =
     if-passed (keyFits _) _ _ _ _ (sym (c .before .before .before .before .key .given .1) ∙ c .before .before .before .before .before .before .read-number .ensures)
-    (key-passes _ _ (c .before .before .if1 .left) (c .before .if2 .left) (c .if3 .left))
+    (key-after _ _ (c .before .before .if1 .left) ∙ sym (c .before .is-key .ensures) ∙ not-false _ (c .if2 .left))
 
-returns-5 : tie.Need-returns-5
-returns-5 c = if-none (keyFits _) _ _ (sym (c .enum-told .given .1) ∙ c .before .before .read-number .ensures)
+returns-4 : tie.Need-returns-4
+returns-4 c = if-none (keyFits _) _ _ (sym (c .enum-told .given .1) ∙ c .before .before .read-number .ensures)
 
 pub read-key-spec : {M : Type 1} → statement M
 read-key-spec =
@@ -41,8 +42,8 @@ read-key-spec =
     read-number-requires
     enum-known-key
     returns
+    is-key-requires
     returns-2
-    returns-3
     enum-told
-    returns-4
-    returns-5)
+    returns-3
+    returns-4)

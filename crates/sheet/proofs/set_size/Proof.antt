@@ -3,6 +3,7 @@ use Prim.Native.Nat.{_≤_}
 use native.Mathlib.Omega.{arith}
 use mathlib.Core.Path.{_≡_, ap}
 use lib.ListN.{length}
+use Rattle.rules.specs.Collecting.{mostIds}
 use Rattle.layout.specs.Sheet.{sheetNumber}
 use Rattle.sheet.proofs.Groups.{number-short}
 use Rattle.sheet.proofs.Writes.{pairs-size, size-set}
@@ -11,7 +12,7 @@ use Rattle.sheet.proofs.set_size.Statement.{statement}
 use Rattle.sheet.proofs.set_size.Tie as tie
 
 -- the arrays are full
-long : (c : tie.Start) → (length (c .args .list .kinds) ≡ 128) × (length (c .args .list .numbers) ≡ 128)
+long : (c : tie.Start) → (length (c .args .list .kinds) ≡ mostIds) × (length (c .args .list .numbers) ≡ mostIds)
 long c = (search needs, search needs)
 
 -- a number takes at most five bytes

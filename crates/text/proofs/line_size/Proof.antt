@@ -3,7 +3,7 @@ use Prim.Native.Nat.{ℕ, _+_, _*_}
 use native.Mathlib.Omega.{arith}
 use mathlib.Core.Path.{_≡_, ap, _∙_}
 use lib.ListN.{length}
-use Rattle.rules.specs.Collecting.{keyWidth}
+use Rattle.rules.specs.Collecting.{keyWidth, mostIds}
 use Rattle.out.specs.Text.{decimal}
 use Rattle.lists.specs.Stored.{pairsIn}
 use Rattle.lists.proofs.Pairs.{length-pairs-in}
@@ -54,8 +54,8 @@ add-result-7 c = search needs
 returns : tie.Need-returns
 returns c =
     let a = c .before .before .before .before .before .before .before .before .before .before .before .before .before .before .before .before .args in
-    let ns : length (a .t3 .numbers) ≡ 128 = search needs in
-    let ks : length (a .t3 .kinds) ≡ 128 = search needs in
+    let ns : length (a .t3 .numbers) ≡ mostIds = search needs in
+    let ks : length (a .t3 .kinds) ≡ mostIds = search needs in
     let n : c .before .before .before .least .result ≡ length (pairsIn (a .t3 .kinds) (a .t3 .numbers) (a .t3 .len)) =
     omega (arith, c .before .before .before .least .ensures, length-pairs-in (a .t3 .kinds) (a .t3 .numbers) (a .t3 .len)) in
     let size =

@@ -3,6 +3,7 @@ use Prim.Native.Nat.{ℕ, _+_, _*_, _≤_}
 use native.Mathlib.Nat.{mul-le-mul}
 use native.Mathlib.Omega.{arith}
 use mathlib.Core.Path.{ap}
+use Rattle.rules.specs.Collecting.{mostIds}
 use Rattle.rules.proofs.TableRules.{width-most}
 use Rattle.text.proofs.pairs_size.Statement.{statement}
 use Rattle.text.proofs.pairs_size.Tie as tie
@@ -15,7 +16,7 @@ narrow : (c : tie.After-width-of) → c .width-of .result ≤ 4
 narrow c = omega (arith, c .width-of .ensures, width-most (c .before .args .key))
 
 few : (c : tie.After-width-of) → c .before .args .n * (2 + 2 * c .width-of .result) ≤ 1280
-few c = mul-le-mul {n₁ = c .before .args .n} {n₂ = 128} {m₂ = 10} (c .before .pre) (omega (arith, narrow c))
+few c = mul-le-mul {n₁ = c .before .args .n} {n₂ = mostIds} {m₂ = 10} (c .before .pre) (omega (arith, narrow c))
 
 mul-result : tie.Need-mul-result
 mul-result c = record { fits = omega (arith, narrow c) }

@@ -4,6 +4,7 @@ use native.Mathlib.Omega.{arith}
 use mathlib.Core.Path.{_≡_, ap}
 use mathlib.Core.List.{_∷_, _++_}
 use lib.ListN.{length}
+use Rattle.rules.specs.Collecting.{mostIds}
 use Rattle.out.specs.Text.{hexText}
 use Rattle.text.specs.Listing.{stateText, idsText, lineOf}
 use Rattle.lists.specs.Stored.{pairsIn}
@@ -36,8 +37,8 @@ returns : tie.Need-returns
 unfolding lineOf shownAs setIn
 returns c =
     let a = c .before .before .before .before .before .before .before .before .before .before .before .before .before .before .before .before .before .before .before .before .before .before .before .before .before .before .before .before .before .before .before .before .before .before .before .before .before .args in
-    let ns : length (a .t5 .numbers) ≡ 128 = search needs in
-    let ks : length (a .t5 .kinds) ≡ 128 = search needs in
+    let ns : length (a .t5 .numbers) ≡ mostIds = search needs in
+    let ks : length (a .t5 .kinds) ≡ mostIds = search needs in
     let n : c .before .before .before .before .before .before .before .before .before .before .before .before .before .before .before .before .before .before .before .before .before .before .before .before .before .before .before .before .before .before .before .before .before .before .least .result ≡ length (pairsIn (a .t5 .kinds) (a .t5 .numbers) (a .t5 .len)) =
     omega (arith, c .before .before .before .before .before .before .before .before .before .before .before .before .before .before .before .before .before .before .before .before .before .before .before .before .before .before .before .before .before .before .before .before .before .before .least .ensures, length-pairs-in (a .t5 .kinds) (a .t5 .numbers) (a .t5 .len)) in
     let head = puts-as (ap (λ (k : ℕ). hexText 4 (a .key) ++ 32 ∷ stateText (a .on) ++ idsText k) n) (c .before .before .before .before .before .before .before .before .before .before .before .before .before .before .before .before .before .before .before .before .before .before .before .before .before .before .before .before .before .before .before .before .before .put-head .ensures) in

@@ -18,16 +18,16 @@ Inv-loop out₀ at table p₀ k₀ out p k = Going out₀ at (linesOf (setsIn ta
 abbrev μ-loop : tie.MeasureT-loop
 μ-loop out₀ at table p₀ k₀ out p k = table .count - k
 
-cut-to-requires : tie.Need-cut-to-requires Inv-loop μ-loop
-cut-to-requires c κs = tt
+least-requires : tie.Need-least-requires Inv-loop μ-loop
+least-requires c κs = tt
 
 loop-holds : tie.Need-loop-holds Inv-loop μ-loop
 loop-holds c =
     let a = c .before .before .args in
     subst
-    (λ rest. Going (a .out .now) (a .at) (linesOf (setsIn (a .t3))) (a .out .now) (c .cut-to .result) rest)
+    (λ rest. Going (a .out .now) (a .at) (linesOf (setsIn (a .t3))) (a .out .now) (c .least .result) rest)
     (sym (ap linesOf (sets-all (a .t3) {n = a .t3 .count} (omega (arith, c .before .before .pre)))))
-    (going-start _ _ _ _ (c .cut-to .ensures))
+    (going-start _ _ _ _ (c .least .ensures))
 
 mul-set : tie.Need-mul-set Inv-loop μ-loop
 mul-set c = search needs
@@ -79,7 +79,7 @@ put-lines-spec =
     (tie.spec
     Inv-loop
     μ-loop
-    cut-to-requires
+    least-requires
     loop-holds
     mul-set
     element-copy-out-set

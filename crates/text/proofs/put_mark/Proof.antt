@@ -21,8 +21,8 @@ put-requires-2 c κs = tt
 put-requires-3 : tie.Need-put-requires-3
 put-requires-3 c κs = tt
 
-cut-to-requires : tie.Need-cut-to-requires
-cut-to-requires c κs = tt
+least-requires : tie.Need-least-requires
+least-requires c κs = tt
 
 same-length : tie.Need-same-length
 same-length c = search needs
@@ -36,7 +36,7 @@ returns c =
 
 returns-2 : tie.Need-returns-2
 unfolding deadText
-returns-2 c = puts-as (rw (sym (c .before .before .is-dead .ensures) ∙ c .before .if1 .left)) (puts-none _ _ _ (c .cut-to .ensures))
+returns-2 c = puts-as (rw (sym (c .before .before .is-dead .ensures) ∙ c .before .if1 .left)) (puts-none _ _ _ (c .least .ensures))
 
 pub put-mark-spec : {M : Type 1} → statement M
 put-mark-spec =
@@ -47,7 +47,7 @@ put-mark-spec =
     letter-of-requires
     put-requires-2
     put-requires-3
-    cut-to-requires
+    least-requires
     same-length
     returns
     returns-2)

@@ -26,11 +26,11 @@ least-requires c κs = tt
 least-requires-2 : tie.Need-least-requires-2 Inv-loop μ-loop
 least-requires-2 c κs = tt
 
-cut-to-requires : tie.Need-cut-to-requires Inv-loop μ-loop
-cut-to-requires c κs = tt
+least-requires-3 : tie.Need-least-requires-3 Inv-loop μ-loop
+least-requires-3 c κs = tt
 
 loop-holds : tie.Need-loop-holds Inv-loop μ-loop
-loop-holds c = (omega (arith, c .before .least2 .ensures, c .before .before .least .ensures), going-start _ _ _ _ (c .cut-to .ensures))
+loop-holds c = (omega (arith, c .before .least2 .ensures, c .before .before .least .ensures), going-start _ _ _ _ (c .least3 .ensures))
 
 shared-slice-read-put-pair : tie.Need-shared-slice-read-put-pair Inv-loop μ-loop
 shared-slice-read-put-pair c = search needs
@@ -80,7 +80,7 @@ put-pairs-spec =
     μ-loop
     least-requires
     least-requires-2
-    cut-to-requires
+    least-requires-3
     loop-holds
     shared-slice-read-put-pair
     mul-put-pair

@@ -6,8 +6,8 @@ use borrow.Author.Needs.{needs}
 use Rattle.text.proofs.put_tail.Statement.{statement}
 use Rattle.text.proofs.put_tail.Tie as tie
 
-cut-to-requires : tie.Need-cut-to-requires
-cut-to-requires c κs = tt
+least-requires : tie.Need-least-requires
+least-requires c κs = tt
 
 slice-aggregate-put-number-line : tie.Need-slice-aggregate-put-number-line
 slice-aggregate-put-number-line c = search needs
@@ -17,7 +17,7 @@ put-number-line-requires c κs = tt
 
 returns : tie.Need-returns
 unfolding tailText
-returns c = puts-as (rw (eq-eqb _ _ (c .before .if1 .taken))) (puts-none _ _ _ (c .cut-to .ensures))
+returns c = puts-as (rw (eq-eqb _ _ (c .before .if1 .taken))) (puts-none _ _ _ (c .least .ensures))
 
 same-length : tie.Need-same-length
 same-length c = search needs
@@ -30,7 +30,7 @@ pub put-tail-spec : {M : Type 1} → statement M
 put-tail-spec =
     tie.close
     (tie.spec
-    cut-to-requires
+    least-requires
     slice-aggregate-put-number-line
     put-number-line-requires
     returns

@@ -4,6 +4,7 @@ use native.Mathlib.Omega.{arith}
 use mathlib.Core.Path.{_≡_, sym, _∙_}
 use lib.ListN.{length}
 use borrow.Author.Tests.{not-true, not-false}
+use Rattle.rules.specs.Collecting.{mostIds}
 use Rattle.lists.proofs.StoredLaws.{holds-facts, holds-by, refuted, fails, tested-empty}
 use borrow.Author.Needs.{needs}
 use Rattle.lists.proofs.IdList.meets.Statement.{statement}
@@ -33,8 +34,8 @@ returns-3 c = refuted _ (λ h. fails (c .before .zeros-u8 .ensures) (not-true _ 
 
 returns-4 : tie.Need-returns-4
 returns-4 c =
-    let nl : length (c .before .before .before .before .before .before .before .before .before .before .before .before .args .t1 .numbers) ≡ 128 = search needs in
-    let kl : length (c .before .before .before .before .before .before .before .before .before .before .before .before .args .t1 .kinds) ≡ 128 = search needs in
+    let nl : length (c .before .before .before .before .before .before .before .before .before .before .before .before .args .t1 .numbers) ≡ mostIds = search needs in
+    let kl : length (c .before .before .before .before .before .before .before .before .before .before .before .before .args .t1 .kinds) ≡ mostIds = search needs in
     tested-empty _ _ nl kl (c .if4 .taken)
     (sym (c .before .before .before .before .before .before .before .zeros-u32 .ensures) ∙ not-false _ (c .before .before .before .before .before .before .if2 .left))
     (sym (c .before .before .zeros-u8 .ensures) ∙ not-false _ (c .before .if3 .left))
@@ -65,8 +66,8 @@ all-differ-requires c κs = search needs
 
 returns-8 : tie.Need-returns-8
 returns-8 c =
-    let nl : length (c .before .before .before .before .before .before .before .before .before .before .before .before .before .before .before .before .before .before .before .before .before .before .before .before .before .before .before .before .before .before .args .t1 .numbers) ≡ 128 = search needs in
-    let kl : length (c .before .before .before .before .before .before .before .before .before .before .before .before .before .before .before .before .before .before .before .before .before .before .before .before .before .before .before .before .before .before .args .t1 .kinds) ≡ 128 = search needs in
+    let nl : length (c .before .before .before .before .before .before .before .before .before .before .before .before .before .before .before .before .before .before .before .before .before .before .before .before .before .before .before .before .before .before .args .t1 .numbers) ≡ mostIds = search needs in
+    let kl : length (c .before .before .before .before .before .before .before .before .before .before .before .before .before .before .before .before .before .before .before .before .before .before .before .before .before .before .before .before .before .before .args .t1 .kinds) ≡ mostIds = search needs in
     record {
       sound = λ e. holds-by _ _
           (record {

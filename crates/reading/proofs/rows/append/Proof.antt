@@ -5,6 +5,7 @@ use mathlib.Core.Path.{_≡_, refl, sym, ap, _∙_}
 use mathlib.Core.Logic.{⊎-elim}
 use lib.ListN.{length, length-set}
 use borrow.Author.Tests.{not-true, not-false}
+use Rattle.rules.specs.Collecting.{mostIds}
 use Rattle.lists.specs.Grown.{grown, fieldPairs}
 use Rattle.lists.proofs.GrownLaws.{grown-first}
 use Rattle.reading.specs.Gathered.{rowList}
@@ -22,7 +23,7 @@ use Rattle.lists.proofs.stands_in.Reads as stands-in-reads
 
 abbrev Inv-loop : tie.InvT-loop
 Inv-loop numbers₀ kinds₀ body f named len₀ count i₀ numbers kinds len i =
-    (i ≤ count) × (count < 2 ^ 64) × (count ≡ f .count) × (len ≤ 128) × (length numbers ≡ 128) × (length kinds ≡ 128)
+    (i ≤ count) × (count < 2 ^ 64) × (count ≡ f .count) × (len ≤ mostIds) × (length numbers ≡ mostIds) × (length kinds ≡ mostIds)
     × (grown (rowList numbers kinds (rowOf len named)) (fieldPairs body f i (count - i)) ≡ grown (rowList numbers₀ kinds₀ (rowOf len₀ named)) (fieldPairs body f 0 (f .count)))
 
 abbrev μ-loop : tie.MeasureT-loop

@@ -4,7 +4,7 @@ use native.Mathlib.Omega.{arith}
 use mathlib.Core.Path.{_≡_}
 use lib.ListN.{length, take, length-set}
 use Rattle.rules.specs.Outcomes.{overwritten}
-use Rattle.sets.proofs.Shifts.{blend}
+use Rattle.rules.proofs.Shifts.{blend}
 use Rattle.table.proofs.Copies.{copy-first, copy-next, copy-end}
 use borrow.Author.Needs.{needs}
 use Rattle.reading.proofs.rows.copy_row.Statement.{statement}

@@ -1,31 +1,37 @@
 -- `rows::gather` meets its contract: the lists passed are those of the rows.
-use Prim.Native.Nat.{ℕ, _-_, _≤_}
+use Prim.Native.Nat.{_-_}
 use native.Mathlib.Omega.{arith}
-use mathlib.Core.Path.{_≡_, refl, sym, ap, _∙_}
-use lib.ListN.{length, take, length-set}
-use lib.Seq.{take-all}
-use Rattle.sets.specs.Stored.{past}
+use mathlib.Core.Path.{refl, sym, _∙_}
+use mathlib.Core.Logic.{⊎-elim}
+use Rattle.rules.specs.Collecting.{mostKeys}
+use Rattle.rules.proofs.Basics.{length-of-map}
 use Rattle.reading.specs.Gathered.{gathered, Whole}
-use Rattle.reading.proofs.GatheredLaws.{row-size, part-long, length-gathered, gathered-at, next-list}
+use Rattle.reading.proofs.GatheredLaws.{row-size, part-long, length-gathered, gathered-at, Gathering, gathering-changed, gathering-same, gathering-end}
 use borrow.Author.Needs.{needs}
 use Rattle.reading.proofs.rows.gather.Statement.{statement}
 use Rattle.reading.proofs.rows.gather.Tie as tie
 use Rattle.reading.proofs.rows.gather.Reads as reads
 use Rattle.reading.proofs.rows.gather.Lts as lts
-use Rattle.lists.proofs.IdList.empty.Reads as empty-reads
 use Rattle.reading.proofs.rows.list_of.Reads as list-of-reads
 
 abbrev Inv-loop : tie.InvT-loop
-Inv-loop numbers kinds rows lists₀ p₀ lists p = (p ≤ 32) × (length lists ≡ 32) × (take p lists ≡ take p (gathered numbers kinds rows))
+Inv-loop numbers kinds rows laid p₀ lists p = Gathering laid (gathered numbers kinds rows) lists p
 
 abbrev μ-loop : tie.MeasureT-loop
-μ-loop numbers kinds rows lists₀ p₀ lists p = 32 - p
+μ-loop numbers kinds rows laid p₀ lists p = mostKeys - p
 
-empty-requires : tie.Need-empty-requires Inv-loop μ-loop
-empty-requires c κs = search needs
+-- the start, and that the rows are whole
+abbrev start : (c : tie.At-loop Inv-loop μ-loop) → tie.Start Inv-loop μ-loop
+start c = c .before .before .before
+
+whole : (c : tie.Start Inv-loop μ-loop) → Whole (c .args .numbers .now) (c .args .kinds .now) (c .args .t4)
+whole c = record { numbers = c .pre .0; kinds = c .pre .1; lens = search needs; names = search needs; changed = search needs }
 
 loop-holds : tie.Need-loop-holds Inv-loop μ-loop
-loop-holds c = (omega arith, refl, refl)
+loop-holds c = record { within = omega arith; long = search (length-of-map, needs); front = refl; rest = λ q h. refl }
+
+element-copy-out-if1 : tie.Need-element-copy-out-if1 Inv-loop μ-loop
+element-copy-out-if1 c = search needs
 
 mul-a : tie.Need-mul-a Inv-loop μ-loop
 mul-a c = search needs
@@ -64,7 +70,13 @@ element-copy-out-list-of-2 : tie.Need-element-copy-out-list-of-2 Inv-loop μ-loo
 element-copy-out-list-of-2 c = search needs
 
 list-of-requires : tie.Need-list-of-requires Inv-loop μ-loop
-list-of-requires c κs = (part-long (c .before .before .before .before .before .loop .p) _ (row-size (c .before .before .before .before .before .loop .p)) (c .before .before .before .before .loop-test .taken) (c .before .before .before .before .before .before .before .before .before .args .numbers .now) (c .before .before .before .before .before .before .before .before .before .pre .0), part-long (c .before .before .before .before .before .loop .p) _ (row-size (c .before .before .before .before .before .loop .p)) (c .before .before .before .before .loop-test .taken) (c .before .before .before .before .before .before .before .before .before .args .kinds .now) (c .before .before .before .before .before .before .before .before .before .pre .1))
+list-of-requires c κs =
+    let turn = c .before .before .before .before .before .before in
+    let p = turn .before .loop .p in
+    let s = start (turn .before) in (
+      part-long p _ (row-size p) (turn .loop-test .taken) (s .args .numbers .now) (s .pre .0),
+      part-long p _ (row-size p) (turn .loop-test .taken) (s .args .kinds .now) (s .pre .1),
+    )
 
 mul-lists : tie.Need-mul-lists Inv-loop μ-loop
 mul-lists c = search needs
@@ -80,17 +92,17 @@ loop-less c = search needs
 
 loop-again : tie.Need-loop-again Inv-loop μ-loop
 loop-again c =
-    let w : Whole (c .before .before .before .before .before .before .before .before .before .before .args .numbers .now) (c .before .before .before .before .before .before .before .before .before .before .args .kinds .now) (c .before .before .before .before .before .before .before .before .before .before .args .t3) = record { numbers = c .before .before .before .before .before .before .before .before .before .before .pre .0; kinds = c .before .before .before .before .before .before .before .before .before .before .pre .1; lens = search needs; names = search needs } in (
-      omega arith,
-      simp length-set (c .before .before .before .before .before .before .loop .inv .1),
-      next-list (c .before .before .before .before .before .before .loop .lists) (gathered (c .before .before .before .before .before .before .before .before .before .before .args .numbers .now) (c .before .before .before .before .before .before .before .before .before .before .args .kinds .now) (c .before .before .before .before .before .before .before .before .before .before .args .t3)) (c .before .before .before .before .before .before .loop .p) _ past (omega (arith, c .before .before .before .before .before .before .loop .inv .1)) (omega (arith, length-gathered _ _ _ w)) (c .before .before .before .before .before .before .loop .inv .2) (c .list-of .ensures ∙ sym (gathered-at _ _ _ w _ _ (row-size (c .before .before .before .before .before .before .loop .p)) (c .before .before .before .before .before .loop-test .taken))),
-    )
+    let turn = c .before .before in
+    let l = turn .before .loop in
+    let s = start (turn .before) in
+    let w = whole s in
+    ⊎-elim
+    (λ x. gathering-changed (l .inv) (length-gathered _ _ _ w) (turn .loop-test .taken) _ (x .5 .ensures ∙ sym (gathered-at _ _ _ w (l .p) _ (row-size (l .p)) (turn .loop-test .taken))) _ (x .6))
+    (λ x. gathering-same (l .inv) (length-gathered _ _ _ w) (turn .loop-test .taken) (s .pre .2 (l .p) (turn .loop-test .taken) (x .0 .left)) _ (x .1))
+    (c .if1 .came)
 
 returns : tie.Need-returns Inv-loop μ-loop
-returns c =
-    let w : Whole (c .before .before .before .before .before .args .numbers .now) (c .before .before .before .before .before .args .kinds .now) (c .before .before .before .before .before .args .t3) = record { numbers = c .before .before .before .before .before .pre .0; kinds = c .before .before .before .before .before .pre .1; lens = search needs; names = search needs } in
-    let e : c .before .loop .p ≡ 32 = omega arith in
-    sym (take-all 32 _ (omega (arith, c .before .loop .inv .1))) ∙ ap (λ (n : ℕ). take n (c .before .loop .lists)) (sym e) ∙ c .before .loop .inv .2 ∙ ap (λ (n : ℕ). take n (gathered (c .before .before .before .before .before .args .numbers .now) (c .before .before .before .before .before .args .kinds .now) (c .before .before .before .before .before .args .t3))) e ∙ take-all 32 _ (omega (arith, length-gathered _ _ _ w))
+returns c = gathering-end (c .before .loop .inv) (length-gathered _ _ _ (whole (start (c .before)))) (c .loop-test .left)
 
 pub gather-spec : {M : Type 1} → statement M
 gather-spec =
@@ -98,8 +110,8 @@ gather-spec =
     (tie.spec
     Inv-loop
     μ-loop
-    empty-requires
     loop-holds
+    element-copy-out-if1
     mul-a
     add-e
     mul-list-of

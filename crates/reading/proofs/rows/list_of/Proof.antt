@@ -1,5 +1,6 @@
 -- `rows::list_of` meets its contract: the row's first places in arrays of zeros.
 use mathlib.Core.Path.{_∙_}
+use Rattle.rules.specs.Collecting.{mostIds}
 use Rattle.reading.specs.Gathered.{rowList}
 use Rattle.reading.proofs.RowLaws.{copy-zeros}
 use borrow.Author.Needs.{needs}
@@ -24,7 +25,7 @@ copy-row-requires c κs = search needs
 
 returns : tie.Need-returns
 unfolding rowList
-returns c = λ i. record { numbers = (c .before .before .copy-row .ensures .0 ∙ copy-zeros _ 128 _ _ (c .before .before .before .before .before .least .ensures) (c .before .before .before .before .before .before .before .before .pre .0)) i; kinds = (c .before .before .copy-row .ensures .1 ∙ copy-zeros _ 128 _ _ (c .before .before .before .before .before .least .ensures) (c .before .before .before .before .before .before .before .before .pre .1)) i; len = c .before .before .before .before .before .before .before .before .args .len; named = c .before .before .before .before .before .before .before .before .args .named }
+returns c = λ i. record { numbers = (c .before .before .copy-row .ensures .0 ∙ copy-zeros _ mostIds _ _ (c .before .before .before .before .before .least .ensures) (c .before .before .before .before .before .before .before .before .pre .0)) i; kinds = (c .before .before .copy-row .ensures .1 ∙ copy-zeros _ mostIds _ _ (c .before .before .before .before .before .least .ensures) (c .before .before .before .before .before .before .before .before .pre .1)) i; len = c .before .before .before .before .before .before .before .before .args .len; named = c .before .before .before .before .before .before .before .before .args .named }
 
 pub list-of-spec : {M : Type 1} → statement M
 list-of-spec =

@@ -44,7 +44,9 @@ same-length-2 : tie.Need-same-length-2
 same-length-2 c = search needs
 
 returns-3 : tie.Need-returns-3
-returns-3 c = row-added _ _ (λ j. c .before .before .before .before .before .before .before .before .before .before .before .before .before .before .before .shared-slice-known .given j .fits) _ _ _ _ _ _ _ (c .before .before .before .before .before .before .before .append .result) _ _ (sym (c .before .before .before .before .before .before .before .before .before .before .before .before .before .before .has-list .ensures) ∙ not-false _ (c .before .before .before .before .before .before .before .before .before .before .before .before .before .if1 .left)) (sym (c .before .before .before .before .before .before .before .before .before .before .before .before .is-continuation .ensures) ∙ c .before .before .before .before .before .before .before .before .before .before .before .if2 .taken) (c .before .before .before .before .before .before .before .before .before .before .if3 .left) (c .before .before .before .before .before .before .before .append .ensures) (c .before .if4 .taken) (c .step-of3 .ensures)
+returns-3 c =
+    let s = c .before .before .before .before .before .before .before .before .before .before .before .before in
+    row-added _ _ (λ j. s .before .before .before .shared-slice-known .given j .fits) _ _ _ _ _ _ _ (c .before .before .before .before .before .before .before .append .result) _ _ (sym (s .before .before .has-list .ensures) ∙ not-false _ (s .before .if1 .left)) (sym (s .is-continuation .ensures) ∙ c .before .before .before .before .before .before .before .before .before .before .before .if2 .taken) (c .before .before .before .before .before .before .before .before .before .before .if3 .left) (c .before .before .before .before .before .before .before .append .ensures) (c .before .if4 .taken) (c .step-of3 .ensures)
 
 step-of-requires-4 : tie.Need-step-of-requires-4
 step-of-requires-4 c κs = search needs
@@ -56,7 +58,9 @@ same-length-4 : tie.Need-same-length-4
 same-length-4 c = search needs
 
 returns-4 : tie.Need-returns-4
-returns-4 c = row-long _ _ (λ j. c .before .before .before .before .before .before .before .before .before .before .before .before .before .before .before .shared-slice-known .given j .fits) _ _ _ _ _ _ _ (c .before .before .before .before .before .before .before .append .result) _ _ (sym (c .before .before .before .before .before .before .before .before .before .before .before .before .before .before .has-list .ensures) ∙ not-false _ (c .before .before .before .before .before .before .before .before .before .before .before .before .before .if1 .left)) (sym (c .before .before .before .before .before .before .before .before .before .before .before .before .is-continuation .ensures) ∙ c .before .before .before .before .before .before .before .before .before .before .before .if2 .taken) (c .before .before .before .before .before .before .before .before .before .before .if3 .left) (c .before .before .before .before .before .before .before .append .ensures) (c .before .if4 .left) (c .step-of4 .ensures)
+returns-4 c =
+    let s = c .before .before .before .before .before .before .before .before .before .before .before .before in
+    row-long _ _ (λ j. s .before .before .before .shared-slice-known .given j .fits) _ _ _ _ _ _ _ (c .before .before .before .before .before .before .before .append .result) _ _ (sym (s .before .before .has-list .ensures) ∙ not-false _ (s .before .if1 .left)) (sym (s .is-continuation .ensures) ∙ c .before .before .before .before .before .before .before .before .before .before .before .if2 .taken) (c .before .before .before .before .before .before .before .before .before .before .if3 .left) (c .before .before .before .before .before .before .before .append .ensures) (c .before .if4 .left) (c .step-of4 .ensures)
 
 append-requires-2 : tie.Need-append-requires-2
 append-requires-2 c κs = search needs
@@ -71,7 +75,9 @@ same-length-6 : tie.Need-same-length-6
 same-length-6 c = search needs
 
 returns-5 : tie.Need-returns-5
-returns-5 c = row-opened _ _ (λ j. c .before .before .before .before .before .before .before .before .before .before .before .before .before .before .shared-slice-known .given j .fits) _ _ _ _ _ _ _ (c .before .before .before .before .before .before .append2 .result) _ _ (sym (c .before .before .before .before .before .before .before .before .before .before .before .before .before .has-list .ensures) ∙ not-false _ (c .before .before .before .before .before .before .before .before .before .before .before .before .if1 .left)) (sym (c .before .before .before .before .before .before .before .before .before .before .before .is-continuation .ensures) ∙ c .before .before .before .before .before .before .before .before .before .before .if2 .left) (c .before .before .before .before .before .before .before .before .before .if5 .taken) (c .before .before .before .before .before .before .append2 .ensures) (c .step-of5 .ensures)
+returns-5 c =
+    let s = c .before .before .before .before .before .before .before .before .before .before .before in
+    row-opened _ _ (λ j. s .before .before .before .shared-slice-known .given j .fits) _ _ _ _ _ _ _ (c .before .before .before .before .before .before .append2 .result) _ _ (sym (s .before .before .has-list .ensures) ∙ not-false _ (s .before .if1 .left)) (sym (s .is-continuation .ensures) ∙ c .before .before .before .before .before .before .before .before .before .before .if2 .left) (c .before .before .before .before .before .before .before .before .before .if5 .taken) (c .before .before .before .before .before .before .append2 .ensures) (c .step-of5 .ensures)
 
 copy-row-requires : tie.Need-copy-row-requires
 copy-row-requires c κs = search needs
@@ -95,7 +101,12 @@ same-length-10 : tie.Need-same-length-10
 same-length-10 c = search needs
 
 returns-6 : tie.Need-returns-6
-returns-6 c = row-shown _ _ (λ j. c .before .before .before .before .before .before .before .before .before .before .before .before .before .before .before .before .before .before .before .before .before .before .before .shared-slice-known .given j .fits) _ _ _ _ _ _ _ (c .before .before .before .before .before .before .append3 .result) _ _ (sym (c .before .before .before .before .before .before .before .before .before .before .before .before .before .before .before .before .before .before .before .before .before .before .has-list .ensures) ∙ not-false _ (c .before .before .before .before .before .before .before .before .before .before .before .before .before .before .before .before .before .before .before .before .before .if1 .left)) (sym (c .before .before .before .before .before .before .before .before .before .before .before .before .before .before .before .before .before .before .before .before .is-continuation .ensures) ∙ c .before .before .before .before .before .before .before .before .before .before .before .before .before .before .before .before .before .before .before .if2 .left) (c .before .before .before .before .before .before .before .before .before .before .before .before .before .before .before .before .before .before .if5 .left) (c .before .before .before .before .before .before .append3 .ensures) (c .before .before .before .before .before .before .before .before .before .before .before .before .before .before .before .before .before .before .before .before .before .before .before .before .before .before .before .before .pre .2) (c .before .before .before .before .before .before .before .before .before .before .before .before .before .before .before .before .before .before .before .before .before .before .before .before .before .before .before .before .pre .3) (c .before .before .before .before .before .before .before .before .before .before .before .before .before .before .before .before .before .before .before .before .before .before .before .before .before .before .before .before .pre .4) _ _ (c .before .before .before .before .before .before .before .before .before .before .before .before .before .copy-row .ensures .0) (c .before .before .before .before .before .before .before .before .before .before .before .before .before .copy-row .ensures .1) (c .step-of6 .ensures)
+returns-6 c =
+    let copied = c .before .before .before .before .before .before .before .before .before .before .before .before .before in
+    let s = copied .before .before .before .before .before .before .before in
+    let begun = s .before .before .before .before .before .before .before .before in
+    row-shown _ _ (λ j. s .before .before .before .shared-slice-known .given j .fits) _ _ _ _ _ _ _ (c .before .before .before .before .before .before .append3 .result) _ _ (sym (s .before .before .has-list .ensures) ∙ not-false _ (s .before .if1 .left)) (sym (s .is-continuation .ensures) ∙ copied .before .before .before .before .before .before .if2 .left) (copied .before .before .before .before .before .if5 .left) (c .before .before .before .before .before .before .append3 .ensures)
+    (begun .pre .2) (begun .pre .3) (begun .pre .4) _ _ (copied .copy-row .ensures .0) (copied .copy-row .ensures .1) (c .step-of6 .ensures)
 
 pub on-held-spec : {M : Type 1} → statement M
 on-held-spec =

@@ -2,9 +2,11 @@
 use Prim.Native.Nat.{ℕ, _+_, _-_, _≤_}
 use native.Mathlib.Omega.{arith}
 use mathlib.Core.Path.{_≡_, refl, sym, ap, _∙_}
+use mathlib.Core.Bool.{false}
 use mathlib.Core.List.{map}
 use lib.ListN.{length, take, length-map, length-set}
 use lib.Seq.{take-all}
+use Rattle.rules.specs.Collecting.{mostKeys, mostIds}
 use Rattle.rules.proofs.Basics.{getD-map, length-of-map}
 use Rattle.sets.specs.Stored.{past}
 use Rattle.reading.specs.Gathered.{gathered, packed, Whole}
@@ -19,17 +21,17 @@ use Rattle.reading.proofs.rows.lay.Reads as lay-reads
 
 abbrev Inv-loop : tie.InvT-loop
 Inv-loop numbers₀ kinds₀ lists rows₀ p₀ numbers kinds rows p =
-    (p ≤ 32) × Whole numbers kinds rows × (length lists ≡ 32) × (take p (gathered numbers kinds rows) ≡ take p (map packed lists))
+    (p ≤ mostKeys) × Whole numbers kinds rows × (length lists ≡ mostKeys) × (take p (gathered numbers kinds rows) ≡ take p (map packed lists))
 
 abbrev μ-loop : tie.MeasureT-loop
-μ-loop numbers₀ kinds₀ lists rows₀ p₀ numbers kinds rows p = 32 - p
+μ-loop numbers₀ kinds₀ lists rows₀ p₀ numbers kinds rows p = mostKeys - p
 
 none-requires : tie.Need-none-requires Inv-loop μ-loop
 none-requires c κs = search needs
 
 loop-holds : tie.Need-loop-holds Inv-loop μ-loop
 loop-holds c =
-    (omega arith, record { numbers = c .before .before .before .pre .0; kinds = c .before .before .before .pre .1; lens = search needs; names = search needs }, search (length-of-map, needs), refl)
+    (omega arith, record { numbers = c .before .before .before .pre .0; kinds = c .before .before .before .pre .1; lens = search needs; names = search needs; changed = search needs }, search (length-of-map, needs), refl)
 
 mul-list : tie.Need-mul-list Inv-loop μ-loop
 mul-list c = search needs
@@ -76,6 +78,9 @@ element-write-rows c = search needs
 element-write-rows-2 : tie.Need-element-write-rows-2 Inv-loop μ-loop
 element-write-rows-2 c = search needs
 
+element-write-rows-3 : tie.Need-element-write-rows-3 Inv-loop μ-loop
+element-write-rows-3 c = search needs
+
 add-p : tie.Need-add-p Inv-loop μ-loop
 add-p c = search needs
 
@@ -88,17 +93,18 @@ loop-again c =
     let h = c .before .before .before .before .before .before .before .before .loop-test .taken in
     let w = l .inv .1 in
     let y = c .before .before .before .before .lay .last in
-    let ln : length (y .1 .0) ≡ 128 = search needs in
-    let lk : length (y .1 .1 .0) ≡ 128 = search needs in (
+    let ln : length (y .1 .0) ≡ mostIds = search needs in
+    let lk : length (y .1 .1 .0) ≡ mostIds = search needs in (
       omega arith,
       record {
         numbers = splice-long (l .p) _ (row-size (l .p)) h (l .numbers) (w .numbers) (y .1 .0) ln;
         kinds = splice-long (l .p) _ (row-size (l .p)) h (l .kinds) (w .kinds) (y .1 .1 .0) lk;
         lens = simp length-set (w .lens);
         names = simp length-set (w .names);
+        changed = simp length-set (w .changed);
       },
       l .inv .2,
-      ap (take (l .p + 1)) (gathered-set (l .numbers) (l .kinds) (l .rows) w (l .p) _ (row-size (l .p)) h (y .1 .0) (y .1 .1 .0) ln lk (c .before .before .before .before .lay .result .len) (c .before .before .before .before .lay .result .named))
+      ap (take (l .p + 1)) (gathered-set (l .numbers) (l .kinds) (l .rows) w (l .p) _ (row-size (l .p)) h (y .1 .0) (y .1 .1 .0) ln lk (c .before .before .before .before .lay .result .len) (c .before .before .before .before .lay .result .named) false)
           ∙ next-list _ (map packed (c .before .before .before .before .before .before .before .before .before .before .before .before .before .args .t1)) (l .p) _ (packed past) (omega (arith, length-gathered _ _ _ w)) (omega (arith, length-map (c .before .before .before .before .before .before .before .before .before .before .before .before .before .args .t1) packed, l .inv .2)) (l .inv .3)
           (c .before .before .before .before .lay .ensures ∙ sym (getD-map packed (c .before .before .before .before .before .before .before .before .before .before .before .before .before .args .t1) (l .p) (packed past) past (omega (arith, l .inv .2)))),
     )
@@ -112,13 +118,13 @@ same-length-2 c = omega (arith, c .before .loop .inv .1 .kinds, c .before .befor
 returns : tie.Need-returns Inv-loop μ-loop
 returns c =
     let l = c .before .loop in
-    let e : l .p ≡ 32 = omega arith in
+    let e : l .p ≡ mostKeys = omega arith in
     record {
       whole = l .inv .1;
       same =
-          sym (take-all 32 _ (omega (arith, length-gathered _ _ _ (l .inv .1))))
+          sym (take-all mostKeys _ (omega (arith, length-gathered _ _ _ (l .inv .1))))
           ∙ ap (λ (n : ℕ). take n (gathered (l .numbers) (l .kinds) (l .rows))) (sym e) ∙ l .inv .3 ∙ ap (λ (n : ℕ). take n (map packed (c .before .before .before .before .before .args .t1))) e
-          ∙ take-all 32 _ (omega (arith, length-map (c .before .before .before .before .before .args .t1) packed, l .inv .2));
+          ∙ take-all mostKeys _ (omega (arith, length-map (c .before .before .before .before .before .args .t1) packed, l .inv .2));
     }
 
 pub scatter-spec : {M : Type 1} → statement M
@@ -144,6 +150,7 @@ scatter-spec =
     mul-rows
     element-write-rows
     element-write-rows-2
+    element-write-rows-3
     add-p
     loop-less
     loop-again

@@ -3,6 +3,7 @@ use borrow.Author.Needs.{needs}
 use mathlib.Core.Path.{ap}
 use mathlib.Core.Bool.{false}
 use lib.ListN.{replicate}
+use Rattle.rules.specs.Collecting.{mostKeys}
 use Rattle.rules.specs.Arrays.{padded}
 use Rattle.lists.specs.declared.IdList.{IdList}
 use Rattle.sets.specs.declared.Sets.{Sets}
@@ -12,7 +13,7 @@ use Rattle.sets.proofs.Sets.empty.Tie as tie
 
 -- no entries, with this list in every place
 abbrev around : IdList → Sets
-around l = record { count = 0; keys = replicate 32 0; on = replicate 32 false; shown = replicate 32 l; draft = replicate 32 l }
+around l = record { count = 0; keys = replicate mostKeys 0; on = replicate mostKeys false; shown = replicate mostKeys l; draft = replicate mostKeys l }
 
 empty-requires : tie.Need-empty-requires
 empty-requires c κs = search needs

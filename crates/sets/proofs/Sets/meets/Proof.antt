@@ -4,6 +4,7 @@ use native.Mathlib.Omega.{arith}
 use mathlib.Core.Path.{_≡_, refl, sym, _∙_}
 use lib.ListN.{length}
 use borrow.Author.Tests.{not-true, not-false}
+use Rattle.rules.specs.Collecting.{mostKeys}
 use Rattle.rules.proofs.Basics.{length-of-map}
 use Rattle.lists.proofs.StoredLaws.{refuted, fails}
 use Rattle.sets.proofs.SetsLaws.{stored-facts, facts-stored}
@@ -62,10 +63,10 @@ none-from-requires-2 c κs = search needs
 
 returns-8 : tie.Need-returns-8
 returns-8 c =
-    let kl : length (c .before .before .before .before .before .before .before .before .before .before .before .before .before .before .before .before .before .before .before .before .before .before .before .before .before .before .args .t1 .keys) ≡ 32 = search needs in
-    let ol : length (c .before .before .before .before .before .before .before .before .before .before .before .before .before .before .before .before .before .before .before .before .before .before .before .before .before .before .args .t1 .on) ≡ 32 = search needs in
-    let sl : length (c .before .before .before .before .before .before .before .before .before .before .before .before .before .before .before .before .before .before .before .before .before .before .before .before .before .before .args .t1 .shown) ≡ 32 = search (length-of-map, needs) in
-    let dl : length (c .before .before .before .before .before .before .before .before .before .before .before .before .before .before .before .before .before .before .before .before .before .before .before .before .before .before .args .t1 .draft) ≡ 32 = search (length-of-map, needs) in
+    let kl : length (c .before .before .before .before .before .before .before .before .before .before .before .before .before .before .before .before .before .before .before .before .before .before .before .before .before .before .args .t1 .keys) ≡ mostKeys = search needs in
+    let ol : length (c .before .before .before .before .before .before .before .before .before .before .before .before .before .before .before .before .before .before .before .before .before .before .before .before .before .before .args .t1 .on) ≡ mostKeys = search needs in
+    let sl : length (c .before .before .before .before .before .before .before .before .before .before .before .before .before .before .before .before .before .before .before .before .before .before .before .before .before .before .args .t1 .shown) ≡ mostKeys = search (length-of-map, needs) in
+    let dl : length (c .before .before .before .before .before .before .before .before .before .before .before .before .before .before .before .before .before .before .before .before .before .before .before .before .before .before .args .t1 .draft) ≡ mostKeys = search (length-of-map, needs) in
     record {
       sound = λ e. facts-stored _
           (record {

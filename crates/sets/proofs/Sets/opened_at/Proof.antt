@@ -3,7 +3,7 @@ use Prim.Native.Nat.{_+_}
 use mathlib.Core.Path.{ap, _∙_}
 use borrow.Author.Tests.{lt-ltb, le-ltb}
 use Rattle.sets.specs.Stored.{openedSets}
-use Rattle.sets.specs.Places.{opened}
+use Rattle.rules.specs.Arrays.{opened}
 use borrow.Author.Needs.{needs}
 use Rattle.sets.proofs.Sets.opened_at.Statement.{statement}
 use Rattle.sets.proofs.Sets.opened_at.Tie as tie

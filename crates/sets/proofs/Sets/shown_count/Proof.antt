@@ -4,6 +4,7 @@ use native.Mathlib.Omega.{arith}
 use mathlib.Core.Path.{_≡_, ap}
 use mathlib.Core.Logic.{⊎-elim}
 use lib.ListN.{length}
+use Rattle.rules.specs.Collecting.{mostKeys}
 use Rattle.sets.specs.Shown.{setsFrom, setsIn}
 use Rattle.sets.proofs.ShownLaws.{sets-skip, sets-next, sets-end, sets-all}
 use borrow.Author.Needs.{needs}
@@ -12,7 +13,7 @@ use Rattle.sets.proofs.Sets.shown_count.Tie as tie
 
 abbrev Inv-loop : tie.InvT-loop
 Inv-loop self end n₀ k₀ n k =
-    (end ≡ min (self .count) 32) × (n + length (setsFrom self k (end - k)) ≡ length (setsIn self)) × (n ≤ k)
+    (end ≡ min (self .count) mostKeys) × (n + length (setsFrom self k (end - k)) ≡ length (setsIn self)) × (n ≤ k)
 
 abbrev μ-loop : tie.MeasureT-loop
 μ-loop self end n₀ k₀ n k = end - k

@@ -8,8 +8,7 @@ use mathlib.Core.Path.{_≡_, refl, sym, ap, ap₂, _∙_}
 use mathlib.Core.List.{List, [], _∷_, _++_, append-assoc, append-nil}
 use lib.ListN.{length, getD, set, take, drop, replicate, length-take, length-drop, length-append, length-replicate, take-append-drop, List·getD-append, replicate-append-replicate, drop-of-length-le}
 use lib.Seq.{set-at, drop-cons, take-suc, take-append-le, drop-append-le, take-append-add, take-all, take-take, getD-append-add, getD-take, getD-drop, length-take-le, append-snoc, set-comm}
-use Rattle.rules.specs.Arrays.{padded}
-use Rattle.sets.specs.Places.{opened, shut}
+use Rattle.rules.specs.Arrays.{padded, opened, shut}
 
 module _ {A : Type 0} where
   -- ---- a blend of two arrays: the first j values of one, the rest of the other
