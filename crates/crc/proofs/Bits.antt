@@ -1,17 +1,17 @@
 -- The bits of a number (bits of crate rules), in this order: how many they are; the bits of an exclusive or, bit by bit;
--- the bits of a number moved up by one place, and by several; the number that bits write, which is the number they came from, and
+-- the bits of a number moved up by one place, and by several; of a small number; the number that bits write, which is the number they came from, and
 -- the bits of its complement. Assumes nothing.
 use Prim.Native.Nat.{ℕ, zero, suc, _+_, _*_, _/_, _%_, _^_, _<_}
 use mathlib.Core.Path.{_≡_, refl, sym, ap, ap₂, _∙_}
 use mathlib.Core.Bool.{Bool, true, false, not, xor}
 use mathlib.Core.List.{List, [], _∷_, _++_, map, zipWith, append-nil, append-assoc}
-use native.Mathlib.Nat.{mod-lt, not-suc-le-zero, le-of-suc-le-suc, zero-lt-suc, zero-add, suc-add, mul-one, mul-assoc, add-mul, add-assoc, mul-comm, pow-suc}
+use native.Mathlib.Nat.{mod-lt, not-suc-le-zero, le-of-suc-le-suc, zero-lt-suc, zero-add, suc-add, mul-one, mul-assoc, add-mul, add-assoc, mul-comm, pow-suc, lt-of-lt-of-le, le-add-left, div-eq-of-lt}
 use native.Mathlib.Numerals.{add-one, one-add}
 use native.Mathlib.Omega.{arith}
 use lib.ListN.{length, replicate, replicate-append-replicate}
 use lib.Dec.{eqb}
 use lib.Bits.{bitXor, xor-shr, xor-mod}
-use lib.Pow.{mod-pow-add, shr-shr, shl-shr}
+use lib.Pow.{mod-pow-add, shr-shr, shl-shr, pow-mono}
 use Rattle.rules.specs.Block.{bits, bit, number}
 
 pub length-bits : (k n : ℕ) → length (bits k n) ≡ k
@@ -66,6 +66,16 @@ bits-up-by (suc j) k n =
     ∙ ap (λ (l : List Bool). l ++ false ∷ []) (bits-up-by j k n)
     ∙ append-assoc (bits k n) (replicate j false) (false ∷ [])
     ∙ ap (λ (l : List Bool). bits k n ++ l) (replicate-append-replicate j 1 false ∙ ap (λ (m : ℕ). replicate m false) (add-one j))
+
+-- ---- of a small number
+
+pub bits-small : (j k n : ℕ) → n < 2 ^ k → bits (j + k) n ≡ replicate j false ++ bits k n
+unfolding bits
+bits-small zero k n h = ap (λ (x : ℕ). bits x n) (zero-add k)
+bits-small (suc j) k n h =
+    let less : n < 2 ^ (j + k) = lt-of-lt-of-le h (pow-mono (le-add-left k j)) in
+    ap (λ (x : ℕ). bits x n) (suc-add j k)
+    ∙ ap₂ {C = List Bool} (λ x y. x ∷ y) (ap (λ (x : ℕ). eqb (x % 2) 1) (div-eq-of-lt less)) (bits-small j k n h)
 
 -- ---- the number that bits write
 

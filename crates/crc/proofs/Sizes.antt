@@ -27,7 +27,7 @@ shift-length (top ∷ low) d h =
     cond-both (λ (r : List Bool). length r ≡ 16) (xor top d) (zipWith xor (low ++ false ∷ []) generator) (low ++ false ∷ [])
     (zip-length (low ++ false ∷ []) generator (n ∙ sym generator-length) ∙ n) n
 
-shifts-length : (r : List Bool) (ds : List Bool) → length r ≡ 16 → length (shifts r ds) ≡ 16
+pub shifts-length : (r : List Bool) (ds : List Bool) → length r ≡ 16 → length (shifts r ds) ≡ 16
 unfolding shifts
 shifts-length r [] h = h
 shifts-length r (d ∷ ds) h = shifts-length (shift r d) ds (shift-length r d h)

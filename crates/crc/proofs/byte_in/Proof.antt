@@ -1,68 +1,34 @@
--- `crc::byte_in` meets its contract. The loop's invariant: what the data bits 0 still to come leave of the register is what
--- the byte's bits leave of the register at entry. The measure is the number of those bits. Assumes nothing.
-use Prim.Native.Nat.{suc, _+_, _*_, _-_, _≤_, _<_}
-use mathlib.Core.Path.{_≡_, sym, _∙_}
-use mathlib.Core.Bool.{false}
-use native.Mathlib.Omega.{arith}
+-- `crc::byte_in` meets its contract: byte-at-once of proofs/Register.antt, whose eight moves are twice four. Assumes nothing.
+use mathlib.Core.Path.{ap, _∙_}
+use mathlib.Core.Bool.{Bool, false}
+use mathlib.Core.List.{List}
+use borrow.Author.Needs.{needs}
 use lib.ListN.{replicate}
 use lib.Bits.{xor-lt}
 use Rattle.rules.specs.Block.{bits, shifts}
-use Rattle.crc.proofs.Register.{byte-at-once, zero-enters}
+use Rattle.crc.proofs.Register.{byte-at-once}
 use Rattle.crc.proofs.byte_in.Statement.{statement}
 use Rattle.crc.proofs.byte_in.Tie as tie
 
-abbrev Inv-loop : tie.InvT-loop
-Inv-loop r b x₀ k₀ x k =
-    (k ≤ 8) × (x < 65536) × (shifts (bits 16 x) (replicate (8 - k) false) ≡ shifts (bits 16 r) (bits 8 b))
+at-top-requires : tie.Need-at-top-requires
+at-top-requires c κs = search needs
 
-abbrev μ-loop : tie.MeasureT-loop
-μ-loop r b x₀ k₀ x k = 8 - k
+up-four-requires : tie.Need-up-four-requires
+up-four-requires c κs = (c .before .pre .0, xor-lt 16 (c .before .args .r) (c .at-top .result) (c .before .pre .1) (c .at-top .ensures .1))
 
-wide-requires : tie.Need-wide-requires Inv-loop μ-loop
-wide-requires c κs = tt
+up-four-requires-2 : tie.Need-up-four-requires-2
+up-four-requires-2 c κs = search needs
 
-mul-x : tie.Need-mul-x Inv-loop μ-loop
-mul-x c = omega arith
-
-loop-holds : tie.Need-loop-holds Inv-loop μ-loop
-loop-holds c = (
-  omega arith,
-  xor-lt 16 (c .before .args .r) (c .wide .result * 256) (c .before .pre) (omega arith),
-  rw (c .wide .ensures .0) (byte-at-once (c .before .args .r) (c .before .args .b)),
-)
-
-up-requires : tie.Need-up-requires Inv-loop μ-loop
-up-requires c κs = c .before .loop .inv .1
-
-add-k : tie.Need-add-k Inv-loop μ-loop
-add-k c = omega arith
-
-loop-less : tie.Need-loop-less Inv-loop μ-loop
-loop-less c = omega arith
-
-loop-again : tie.Need-loop-again Inv-loop μ-loop
-loop-again c =
-    let at = c .before .before .loop in
-    let one : 8 - at .k ≡ suc (8 - (at .k + 1)) = omega arith in
-    (omega arith, c .up .ensures .1, rw (c .up .ensures .0) (sym (zero-enters (bits 16 (at .x)) one) ∙ at .inv .2))
-
-returns : tie.Need-returns Inv-loop μ-loop
+returns : tie.Need-returns
 unfolding shifts
 returns c =
-    let none : 8 - c .before .loop .k ≡ 0 = omega arith in
-    (rw none at (c .before .loop .inv .2), c .before .loop .inv .1)
+    let at = c .before .before .before in (
+      c .up-four2 .ensures .0
+          ∙ ap (λ (x : List Bool). shifts x (replicate 4 false)) (c .before .up-four .ensures .0)
+          ∙ rw (c .before .before .at-top .ensures .0) (byte-at-once (at .args .r) (at .args .b)),
+      c .up-four2 .ensures .1,
+    )
 
 pub byte-in-spec : {M : Type 1} → statement M
 byte-in-spec =
-    tie.close
-    (tie.spec
-    Inv-loop
-    μ-loop
-    wide-requires
-    mul-x
-    loop-holds
-    up-requires
-    add-k
-    loop-less
-    loop-again
-    returns)
+    tie.close (tie.spec at-top-requires up-four-requires up-four-requires-2 returns)
