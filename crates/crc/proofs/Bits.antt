@@ -1,6 +1,6 @@
 -- The bits of a number (bits of crate rules), in this order: how many they are; the bits of an exclusive or, bit by bit;
--- the bits of a number moved up by one place, and by several; of a small number; the number that bits write, which is the number they came from, and
--- the bits of its complement. Assumes nothing.
+-- the bits of a number moved up by one place, and by several; of a small number; the number that bits write, which is the
+-- number they came from, and the bits of its complement. Assumes nothing.
 use Prim.Native.Nat.{ℕ, zero, suc, _+_, _*_, _/_, _%_, _^_, _<_}
 use mathlib.Core.Path.{_≡_, refl, sym, ap, ap₂, _∙_}
 use mathlib.Core.Bool.{Bool, true, false, not, xor}

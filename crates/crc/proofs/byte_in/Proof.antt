@@ -5,7 +5,7 @@ use mathlib.Core.List.{List}
 use borrow.Author.Needs.{needs}
 use lib.ListN.{replicate}
 use lib.Bits.{xor-lt}
-use Rattle.rules.specs.Block.{bits, shifts}
+use Rattle.rules.specs.Block.{shifts}
 use Rattle.crc.proofs.Register.{byte-at-once}
 use Rattle.crc.proofs.byte_in.Statement.{statement}
 use Rattle.crc.proofs.byte_in.Tie as tie
