@@ -10,18 +10,20 @@ use Rattle.rules.specs.Block.{bits, bit, number, generator, shift, shift
 use Rattle.rules.specs.Field.{isLinking, width, bigEndian, identifiers, shortField, listField, listBytes, fieldAt, fieldsOf, keyOf, pair, hasList, isContinuation, firstKind, startPairs, pairsOf, namedBy, wrongValue, emptyStart}
 use Rattle.rules.specs.Family.{member, added, addedAll, opening, extended, entryWith, started, continued, onHeld, fresh, onUnheld, kept, effect, find, replace, insert, store, step, steps, closed, dropOpen}
 use Rattle.rules.specs.Collecting.{samePair, joinNames, IdSet, Content, nothing, justSets, brings, actOf, said}
-use Rattle.rules.specs.Outcomes.{numberOf, noteNumber, Answer, joined, allFields, some?, judgeFields, judgeFigs, verdict, answerTo, readBlock}
+use Rattle.rules.specs.Outcomes.{numberOf, noteNumber, Answer, joined, allFields, some?, firstPlace, judgeFields, judgeFigs, verdict, answerTo, readBlock}
 
 -- an example: blocks, read one after the other into the empty table, and the answer to the last of them
 pub record Example : Type 0 where
   pub blocks : List (List ℕ)
   pub outcome : ℕ
+  pub place : ℕ
   pub notes : List ℕ
   pub left : Content
 
 -- an answer by its numbers
 pub record Numbered : Type 0 where
   pub outcome : ℕ
+  pub place : ℕ
   pub notes : List ℕ
   pub left : Content
 
@@ -32,11 +34,11 @@ lastAnswer a (b ∷ bs) = lastAnswer (readBlock (a .left) b) bs
 -- the table is empty at the start
 unfoldable pub given : Example → Numbered
 given x =
-    let a = lastAnswer (record { outcome = Done; notes = []; left = nothing }) (x .blocks) in
-    record { outcome = numberOf (a .outcome); notes = map noteNumber (a .notes); left = a .left }
+    let a = lastAnswer (record { outcome = Done; place = 0; notes = []; left = nothing }) (x .blocks) in
+    record { outcome = numberOf (a .outcome); place = a .place; notes = map noteNumber (a .notes); left = a .left }
 
 unfoldable pub expected : Example → Numbered
-expected x = record { outcome = x .outcome; notes = x .notes; left = x .left }
+expected x = record { outcome = x .outcome; place = x .place; notes = x .notes; left = x .left }
 
 abbrev linked : List ℕ
 linked = 8 ∷ 6 ∷ 224 ∷ 4 ∷ 34 ∷ 68 ∷ 177 ∷ 68 ∷ 177 ∷ 255 ∷ 0 ∷ 0 ∷ 0 ∷ 0 ∷ 0 ∷ 0 ∷ 0 ∷ 0 ∷ 0 ∷ 0 ∷ 0 ∷ 0 ∷ 0 ∷ 0 ∷ 0 ∷ 0 ∷ 0 ∷ 0 ∷ 0 ∷ 0 ∷ 195 ∷ 97 ∷ []
@@ -60,34 +62,34 @@ unfoldable pub examples : List Example
 unfolding pair
 examples =
     -- 1: a start: key 2004 opened, list DAB 44B1, RDS 44B1, nothing shown
-    record { blocks = linked ∷ []; outcome = 0; notes = 1 ∷ []; left = E true none (some two) } ∷
+    record { blocks = linked ∷ []; outcome = 0; place = 0; notes = 1 ∷ []; left = E true none (some two) } ∷
     -- 2: the same again: shown, on, RDS named
-    record { blocks = linked ∷ linked ∷ []; outcome = 0; notes = 2 ∷ []; left = E true (some two) (some two) } ∷
+    record { blocks = linked ∷ linked ∷ []; outcome = 0; place = 0; notes = 2 ∷ []; left = E true (some two) (some two) } ∷
     -- 3: then the short form with LA 0: off, list the same
-    record { blocks = linked ∷ linked ∷ short ∷ []; outcome = 0; notes = 7 ∷ []; left = E false (some two) (some two) } ∷
+    record { blocks = linked ∷ linked ∷ short ∷ []; outcome = 0; place = 0; notes = 7 ∷ []; left = E false (some two) (some two) } ∷
     -- 4: a failing check in between: nothing shown
-    record { blocks = linked ∷ failing ∷ linked ∷ []; outcome = 0; notes = 1 ∷ []; left = E true none (some two) } ∷
+    record { blocks = linked ∷ failing ∷ linked ∷ []; outcome = 0; place = 0; notes = 1 ∷ []; left = E true none (some two) } ∷
     -- 5: first data byte FF: done, no notes
-    record { blocks = (255 ∷ 0 ∷ 0 ∷ 0 ∷ 0 ∷ 0 ∷ 0 ∷ 0 ∷ 0 ∷ 0 ∷ 0 ∷ 0 ∷ 0 ∷ 0 ∷ 0 ∷ 0 ∷ 0 ∷ 0 ∷ 0 ∷ 0 ∷ 0 ∷ 0 ∷ 0 ∷ 0 ∷ 0 ∷ 0 ∷ 0 ∷ 0 ∷ 0 ∷ 0 ∷ 168 ∷ 168 ∷ []) ∷ []; outcome = 0; notes = []; left = nothing } ∷
-    -- 6: first byte 00: 3
-    record { blocks = (0 ∷ 255 ∷ 0 ∷ 0 ∷ 0 ∷ 0 ∷ 0 ∷ 0 ∷ 0 ∷ 0 ∷ 0 ∷ 0 ∷ 0 ∷ 0 ∷ 0 ∷ 0 ∷ 0 ∷ 0 ∷ 0 ∷ 0 ∷ 0 ∷ 0 ∷ 0 ∷ 0 ∷ 0 ∷ 0 ∷ 0 ∷ 0 ∷ 0 ∷ 0 ∷ 130 ∷ 237 ∷ []) ∷ []; outcome = 3; notes = []; left = nothing } ∷
-    -- 7: a field of one byte: 4
-    record { blocks = (2 ∷ 6 ∷ 32 ∷ 255 ∷ 0 ∷ 0 ∷ 0 ∷ 0 ∷ 0 ∷ 0 ∷ 0 ∷ 0 ∷ 0 ∷ 0 ∷ 0 ∷ 0 ∷ 0 ∷ 0 ∷ 0 ∷ 0 ∷ 0 ∷ 0 ∷ 0 ∷ 0 ∷ 0 ∷ 0 ∷ 0 ∷ 0 ∷ 0 ∷ 0 ∷ 7 ∷ 56 ∷ []) ∷ []; outcome = 4; notes = []; left = nothing } ∷
-    -- 8: LSN 0: 5
-    record { blocks = (3 ∷ 6 ∷ 32 ∷ 0 ∷ 255 ∷ 0 ∷ 0 ∷ 0 ∷ 0 ∷ 0 ∷ 0 ∷ 0 ∷ 0 ∷ 0 ∷ 0 ∷ 0 ∷ 0 ∷ 0 ∷ 0 ∷ 0 ∷ 0 ∷ 0 ∷ 0 ∷ 0 ∷ 0 ∷ 0 ∷ 0 ∷ 0 ∷ 0 ∷ 0 ∷ 118 ∷ 116 ∷ []) ∷ []; outcome = 5; notes = []; left = nothing } ∷
-    -- 9: a start with count 0: 6
-    record { blocks = (4 ∷ 6 ∷ 224 ∷ 4 ∷ 0 ∷ 255 ∷ 0 ∷ 0 ∷ 0 ∷ 0 ∷ 0 ∷ 0 ∷ 0 ∷ 0 ∷ 0 ∷ 0 ∷ 0 ∷ 0 ∷ 0 ∷ 0 ∷ 0 ∷ 0 ∷ 0 ∷ 0 ∷ 0 ∷ 0 ∷ 0 ∷ 0 ∷ 0 ∷ 0 ∷ 224 ∷ 165 ∷ []) ∷ []; outcome = 6; notes = []; left = nothing } ∷
-    -- 10: a field without a list, then a lone byte: 4
-    record { blocks = (4 ∷ 38 ∷ 54 ∷ 224 ∷ 4 ∷ 255 ∷ 0 ∷ 0 ∷ 0 ∷ 0 ∷ 0 ∷ 0 ∷ 0 ∷ 0 ∷ 0 ∷ 0 ∷ 0 ∷ 0 ∷ 0 ∷ 0 ∷ 0 ∷ 0 ∷ 0 ∷ 0 ∷ 0 ∷ 0 ∷ 0 ∷ 0 ∷ 0 ∷ 0 ∷ 34 ∷ 9 ∷ []) ∷ []; outcome = 4; notes = []; left = nothing } ∷
-    -- 10: with 00 directly after it: 3
-    record { blocks = (4 ∷ 38 ∷ 54 ∷ 224 ∷ 4 ∷ 0 ∷ 255 ∷ 0 ∷ 0 ∷ 0 ∷ 0 ∷ 0 ∷ 0 ∷ 0 ∷ 0 ∷ 0 ∷ 0 ∷ 0 ∷ 0 ∷ 0 ∷ 0 ∷ 0 ∷ 0 ∷ 0 ∷ 0 ∷ 0 ∷ 0 ∷ 0 ∷ 0 ∷ 0 ∷ 164 ∷ 200 ∷ []) ∷ []; outcome = 3; notes = []; left = nothing } ∷
+    record { blocks = (255 ∷ 0 ∷ 0 ∷ 0 ∷ 0 ∷ 0 ∷ 0 ∷ 0 ∷ 0 ∷ 0 ∷ 0 ∷ 0 ∷ 0 ∷ 0 ∷ 0 ∷ 0 ∷ 0 ∷ 0 ∷ 0 ∷ 0 ∷ 0 ∷ 0 ∷ 0 ∷ 0 ∷ 0 ∷ 0 ∷ 0 ∷ 0 ∷ 0 ∷ 0 ∷ 168 ∷ 168 ∷ []) ∷ []; outcome = 0; place = 0; notes = []; left = nothing } ∷
+    -- 6: first byte 00: 3, at that byte
+    record { blocks = (0 ∷ 255 ∷ 0 ∷ 0 ∷ 0 ∷ 0 ∷ 0 ∷ 0 ∷ 0 ∷ 0 ∷ 0 ∷ 0 ∷ 0 ∷ 0 ∷ 0 ∷ 0 ∷ 0 ∷ 0 ∷ 0 ∷ 0 ∷ 0 ∷ 0 ∷ 0 ∷ 0 ∷ 0 ∷ 0 ∷ 0 ∷ 0 ∷ 0 ∷ 0 ∷ 130 ∷ 237 ∷ []) ∷ []; outcome = 3; place = 0; notes = []; left = nothing } ∷
+    -- 7: a field of one byte: 4, at that byte
+    record { blocks = (2 ∷ 6 ∷ 32 ∷ 255 ∷ 0 ∷ 0 ∷ 0 ∷ 0 ∷ 0 ∷ 0 ∷ 0 ∷ 0 ∷ 0 ∷ 0 ∷ 0 ∷ 0 ∷ 0 ∷ 0 ∷ 0 ∷ 0 ∷ 0 ∷ 0 ∷ 0 ∷ 0 ∷ 0 ∷ 0 ∷ 0 ∷ 0 ∷ 0 ∷ 0 ∷ 7 ∷ 56 ∷ []) ∷ []; outcome = 4; place = 2; notes = []; left = nothing } ∷
+    -- 8: LSN 0: 5, at the field's first byte
+    record { blocks = (3 ∷ 6 ∷ 32 ∷ 0 ∷ 255 ∷ 0 ∷ 0 ∷ 0 ∷ 0 ∷ 0 ∷ 0 ∷ 0 ∷ 0 ∷ 0 ∷ 0 ∷ 0 ∷ 0 ∷ 0 ∷ 0 ∷ 0 ∷ 0 ∷ 0 ∷ 0 ∷ 0 ∷ 0 ∷ 0 ∷ 0 ∷ 0 ∷ 0 ∷ 0 ∷ 118 ∷ 116 ∷ []) ∷ []; outcome = 5; place = 2; notes = []; left = nothing } ∷
+    -- 9: a start with count 0: 6, at the field's first byte
+    record { blocks = (4 ∷ 6 ∷ 224 ∷ 4 ∷ 0 ∷ 255 ∷ 0 ∷ 0 ∷ 0 ∷ 0 ∷ 0 ∷ 0 ∷ 0 ∷ 0 ∷ 0 ∷ 0 ∷ 0 ∷ 0 ∷ 0 ∷ 0 ∷ 0 ∷ 0 ∷ 0 ∷ 0 ∷ 0 ∷ 0 ∷ 0 ∷ 0 ∷ 0 ∷ 0 ∷ 224 ∷ 165 ∷ []) ∷ []; outcome = 6; place = 2; notes = []; left = nothing } ∷
+    -- 10: a field without a list, then a lone byte: 4, at that byte
+    record { blocks = (4 ∷ 38 ∷ 54 ∷ 224 ∷ 4 ∷ 255 ∷ 0 ∷ 0 ∷ 0 ∷ 0 ∷ 0 ∷ 0 ∷ 0 ∷ 0 ∷ 0 ∷ 0 ∷ 0 ∷ 0 ∷ 0 ∷ 0 ∷ 0 ∷ 0 ∷ 0 ∷ 0 ∷ 0 ∷ 0 ∷ 0 ∷ 0 ∷ 0 ∷ 0 ∷ 34 ∷ 9 ∷ []) ∷ []; outcome = 4; place = 4; notes = []; left = nothing } ∷
+    -- 10: with 00 directly after it: 3, at that byte, where the next FIG should begin
+    record { blocks = (4 ∷ 38 ∷ 54 ∷ 224 ∷ 4 ∷ 0 ∷ 255 ∷ 0 ∷ 0 ∷ 0 ∷ 0 ∷ 0 ∷ 0 ∷ 0 ∷ 0 ∷ 0 ∷ 0 ∷ 0 ∷ 0 ∷ 0 ∷ 0 ∷ 0 ∷ 0 ∷ 0 ∷ 0 ∷ 0 ∷ 0 ∷ 0 ∷ 0 ∷ 0 ∷ 164 ∷ 200 ∷ []) ∷ []; outcome = 3; place = 5; notes = []; left = nothing } ∷
     -- 11: 31 bytes: 1, open lists kept
-    record { blocks = linked ∷ (8 ∷ 6 ∷ 224 ∷ 4 ∷ 34 ∷ 68 ∷ 177 ∷ 68 ∷ 177 ∷ 255 ∷ 0 ∷ 0 ∷ 0 ∷ 0 ∷ 0 ∷ 0 ∷ 0 ∷ 0 ∷ 0 ∷ 0 ∷ 0 ∷ 0 ∷ 0 ∷ 0 ∷ 0 ∷ 0 ∷ 0 ∷ 0 ∷ 0 ∷ 0 ∷ 195 ∷ []) ∷ []; outcome = 1; notes = []; left = E true none (some two) } ∷
+    record { blocks = linked ∷ (8 ∷ 6 ∷ 224 ∷ 4 ∷ 34 ∷ 68 ∷ 177 ∷ 68 ∷ 177 ∷ 255 ∷ 0 ∷ 0 ∷ 0 ∷ 0 ∷ 0 ∷ 0 ∷ 0 ∷ 0 ∷ 0 ∷ 0 ∷ 0 ∷ 0 ∷ 0 ∷ 0 ∷ 0 ∷ 0 ∷ 0 ∷ 0 ∷ 0 ∷ 0 ∷ 195 ∷ []) ∷ []; outcome = 1; place = 0; notes = []; left = E true none (some two) } ∷
     -- 12: a FIG that fills the block, of another extension: done, no notes
-    record { blocks = (29 ∷ 1 ∷ 0 ∷ 0 ∷ 0 ∷ 0 ∷ 0 ∷ 0 ∷ 0 ∷ 0 ∷ 0 ∷ 0 ∷ 0 ∷ 0 ∷ 0 ∷ 0 ∷ 0 ∷ 0 ∷ 0 ∷ 0 ∷ 0 ∷ 0 ∷ 0 ∷ 0 ∷ 0 ∷ 0 ∷ 0 ∷ 0 ∷ 0 ∷ 0 ∷ 209 ∷ 55 ∷ []) ∷ []; outcome = 0; notes = []; left = nothing } ∷
+    record { blocks = (29 ∷ 1 ∷ 0 ∷ 0 ∷ 0 ∷ 0 ∷ 0 ∷ 0 ∷ 0 ∷ 0 ∷ 0 ∷ 0 ∷ 0 ∷ 0 ∷ 0 ∷ 0 ∷ 0 ∷ 0 ∷ 0 ∷ 0 ∷ 0 ∷ 0 ∷ 0 ∷ 0 ∷ 0 ∷ 0 ∷ 0 ∷ 0 ∷ 0 ∷ 0 ∷ 209 ∷ 55 ∷ []) ∷ []; outcome = 0; place = 0; notes = []; left = nothing } ∷
     []
 
 -- each of them gives what it should
 pub examples-hold : map given examples ≡ map expected examples
-unfolding examples given expected numberOf noteNumber lastAnswer bits bit number generator shift shifts register checkOf checkHolds after walk figAt figs isLinking width bigEndian identifiers shortField listField listBytes fieldAt fieldsOf keyOf pair hasList isContinuation firstKind startPairs pairsOf namedBy wrongValue emptyStart member added addedAll opening extended entryWith started continued onHeld fresh onUnheld kept effect find replace insert store step steps closed dropOpen samePair joinNames brings actOf said joined allFields some? judgeFields judgeFigs verdict answerTo readBlock mathlib.Core.Bool.xor mathlib.Core.List.zipWith
+unfolding examples given expected numberOf noteNumber lastAnswer bits bit number generator shift shifts register checkOf checkHolds after walk figAt figs isLinking width bigEndian identifiers shortField listField listBytes fieldAt fieldsOf keyOf pair hasList isContinuation firstKind startPairs pairsOf namedBy wrongValue emptyStart member added addedAll opening extended entryWith started continued onHeld fresh onUnheld kept effect find replace insert store step steps closed dropOpen samePair joinNames brings actOf said joined allFields some? firstPlace judgeFields judgeFigs verdict answerTo readBlock mathlib.Core.Bool.xor mathlib.Core.List.zipWith
 examples-hold = refl

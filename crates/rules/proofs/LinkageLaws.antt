@@ -16,7 +16,7 @@ use Rattle.rules.specs.Block.{Placed, Walk, whole, broken, Fig, figs, ch
 use Rattle.rules.specs.Field.{Field, keyOf, Pair, pair, pairsOf, startPairs, firstKind, namedBy, hasList, isContinuation, width, rds, drm, wrongValue, emptyStart}
 use Rattle.rules.specs.Family.{start, continuation, noList, addedAll, opening, extended, steps, dropOpen, forget}
 use Rattle.rules.specs.Collecting.{joinNames, linkage, IdSet, Entries, Content, linkageRules, withSets, brings, actOf, said, keyWidth, notEmpty, mayBegin, beginsRight, kindNamed, namesMeet, meets, mostIds}
-use Rattle.rules.specs.Outcomes.{numberOf, Verdict, taken, refused, noBlock, judgeFields, judgeFigs, verdict, Answer, answerTo, readBlock, readBlocks, readRecording, leftOver, forgotten, allFields, some?}
+use Rattle.rules.specs.Outcomes.{numberOf, Verdict, taken, refused, noBlock, judgeFields, judgeFigs, verdict, Answer, answerTo, readBlock, readBlocks, readRecording, leftOver, forgotten, allFields, some?, firstPlace}
 use Rattle.rules.proofs.Basics.{cases-bool, true-false, cond-cases, cond-both, Every, every-imp, every-map, every-from, every-take, every-drop}
 use Rattle.rules.proofs.FamilyLaws.{Brings, different-addedAll, addedAll-first, opening-first, length-addedAll, every-addedAll, steps-notes}
 use Rattle.rules.proofs.FamilyRules.{FieldMeets, table-steps, table-drop-open, table-forget}
@@ -231,23 +231,23 @@ meets-forget k t m = table-forget linkage lawful linkageRules meaning k t m
 
 -- ---- reading a block
 
-pub cases-verdict {ℓ} : {C : Type ℓ} (v : Verdict) → ((fs : List Field) → v ≡ taken fs → C) → ((o : Outcome) → v ≡ refused o → C)
+pub cases-verdict {ℓ} : {C : Type ℓ} (v : Verdict) → ((fs : List Field) → v ≡ taken fs → C) → ((o : Outcome) (p : ℕ) → v ≡ refused o p → C)
     → (v ≡ noBlock → C) → C
 cases-verdict (taken fs) t r n = t fs refl
-cases-verdict (refused o) t r n = r o refl
+cases-verdict (refused o p) t r n = r o p refl
 cases-verdict noBlock t r n = n refl
 
 pub answer-taken : (t : Content) (fib : List ℕ) (fs : List Field) → verdict fib ≡ taken fs
-    → readBlock t fib ≡ record { outcome = Done; notes = steps linkage (t .sets) (map said fs) .1; left = withSets t (steps linkage (t .sets) (map said fs) .0) }
+    → readBlock t fib ≡ record { outcome = Done; place = 0; notes = steps linkage (t .sets) (map said fs) .1; left = withSets t (steps linkage (t .sets) (map said fs) .0) }
 unfolding readBlock answerTo
 answer-taken t fib fs e = rw e
 
-pub answer-refused : (t : Content) (fib : List ℕ) (o : Outcome) → verdict fib ≡ refused o
-    → readBlock t fib ≡ record { outcome = o; notes = []; left = withSets t (dropOpen linkage (t .sets)) }
+pub answer-refused : (t : Content) (fib : List ℕ) (o : Outcome) (p : ℕ) → verdict fib ≡ refused o p
+    → readBlock t fib ≡ record { outcome = o; place = p; notes = []; left = withSets t (dropOpen linkage (t .sets)) }
 unfolding readBlock answerTo
-answer-refused t fib o e = rw e
+answer-refused t fib o p e = rw e
 
-pub answer-none : (t : Content) (fib : List ℕ) → verdict fib ≡ noBlock → readBlock t fib ≡ record { outcome = NotABlock; notes = []; left = t }
+pub answer-none : (t : Content) (fib : List ℕ) → verdict fib ≡ noBlock → readBlock t fib ≡ record { outcome = NotABlock; place = 0; notes = []; left = t }
 unfolding readBlock answerTo
 answer-none t fib e = rw e
 
@@ -259,7 +259,7 @@ pub meets-block : (t : Content) (fib : List ℕ) → Bytes fib → Meets (t .set
 meets-block t fib b m =
     cases-verdict (verdict fib)
     (λ fs e. subst (λ (a : Answer). Meets (a .left .sets)) (sym (answer-taken t fib fs e)) (meets-steps (t .sets) fs (taken-good fib fs b e) m))
-    (λ o e. subst (λ (a : Answer). Meets (a .left .sets)) (sym (answer-refused t fib o e)) (meets-drop-open (t .sets) m))
+    (λ o p e. subst (λ (a : Answer). Meets (a .left .sets)) (sym (answer-refused t fib o p e)) (meets-drop-open (t .sets) m))
     (λ e. subst (λ (a : Answer). Meets (a .left .sets)) (sym (answer-none t fib e)) m)
 
 -- reading a block of bytes keeps the table rules
@@ -277,7 +277,7 @@ notes-few t fib =
     cases-verdict (verdict fib)
     (λ fs e. subst (λ (a : Answer). length (a .notes) ≤ 14) (sym (answer-taken t fib fs e))
     (omega (arith, steps-notes linkage (t .sets) (map said fs), length-map fs said, taken-few fib fs e)))
-    (λ o e. subst (λ (a : Answer). length (a .notes) ≤ 14) (sym (answer-refused t fib o e)) (omega arith))
+    (λ o p e. subst (λ (a : Answer). length (a .notes) ≤ 14) (sym (answer-refused t fib o p e)) (omega arith))
     (λ e. subst (λ (a : Answer). length (a .notes) ≤ 14) (sym (answer-none t fib e)) (omega arith))
 
 -- one note for each field of a taken block
@@ -286,26 +286,26 @@ notes-fields t fib fs e = rw (answer-taken t fib fs e) (steps-notes linkage (t .
 
 -- ---- refused blocks
 
--- why a block of full length is refused, and its number: each condition over the whole block before the next (document 01,
--- Numbered outcomes)
-pub data Refused (fib : List ℕ) : ℕ → Type 0 where
+-- why a block of full length is refused, its number, and the place where: each condition over the whole block before the next
+-- (document 01, Numbered outcomes; document 02, R-1)
+pub data Refused (fib : List ℕ) : ℕ → ℕ → Type 0 where
   -- 2: the check fails
-  failingCheck : checkHolds fib ≡ false → Refused fib 2
+  failingCheck : checkHolds fib ≡ false → Refused fib 2 0
   -- 3: the FIG walk breaks
-  brokenFigs : checkHolds fib ≡ true → (p : ℕ) → figs fib ≡ broken p → Refused fib 3
+  brokenFigs : checkHolds fib ≡ true → (p : ℕ) → figs fib ≡ broken p → Refused fib 3 p
   -- 4: a field does not fit
-  brokenFields : checkHolds fib ≡ true → (gs : List (Placed Fig)) → figs fib ≡ whole gs → (p : ℕ) → allFields gs ≡ broken p → Refused fib 4
+  brokenFields : checkHolds fib ≡ true → (gs : List (Placed Fig)) → figs fib ≡ whole gs → (p : ℕ) → allFields gs ≡ broken p → Refused fib 4 p
   -- 5: some field has a wrong value
   badValue : checkHolds fib ≡ true → (gs : List (Placed Fig)) → figs fib ≡ whole gs → (fs : List (Placed Field)) → allFields gs ≡ whole fs
-      → some? wrongValue fs ≡ true → Refused fib 5
+      → some? wrongValue fs ≡ true → Refused fib 5 (firstPlace wrongValue fs)
   -- 6: some start is empty
   noFirst : checkHolds fib ≡ true → (gs : List (Placed Fig)) → figs fib ≡ whole gs → (fs : List (Placed Field)) → allFields gs ≡ whole fs
-      → some? wrongValue fs ≡ false → some? emptyStart fs ≡ true → Refused fib 6
+      → some? wrongValue fs ≡ false → some? emptyStart fs ≡ true → Refused fib 6 (firstPlace emptyStart fs)
 
 -- what a verdict on a block of full length says: it is no other than these
 abbrev pub Refusal : List ℕ → Verdict → Type 0
 Refusal fib (taken fs) = Unit {0}
-Refusal fib (refused o) = Refused fib (numberOf o)
+Refusal fib (refused o p) = Refused fib (numberOf o) p
 Refusal fib noBlock = ⊥
 
 module _ (fib : List ℕ) (h : checkHolds fib ≡ true) where
@@ -329,8 +329,8 @@ full-refusal fib l =
     (cases-bool (checkHolds fib) (λ h. rw h (figs-refusal fib h (figs fib) refl)) (λ h. rw h (failingCheck h)))
 
 -- so what is refused is a block of full length
-pub refused-full : (fib : List ℕ) (o : Outcome) → verdict fib ≡ refused o → (length fib ≡ 32) × Refused fib (numberOf o)
-refused-full fib o e =
+pub refused-full : (fib : List ℕ) (o : Outcome) (p : ℕ) → verdict fib ≡ refused o p → (length fib ≡ 32) × Refused fib (numberOf o) p
+refused-full fib o p e =
     cases-bool (eqb (length fib) 32)
     (λ l.
     let full = eqb-true (length fib) 32 l in
@@ -341,19 +341,19 @@ refused-full fib o e =
     absurd (omega arith))
 
 -- and its number is none but 2 to 6
-pub refused-numbers : {fib : List ℕ} {n : ℕ} → Refused fib n → (2 ≤ n) × (n ≤ 6)
+pub refused-numbers : {fib : List ℕ} {n p : ℕ} → Refused fib n p → (2 ≤ n) × (n ≤ 6)
 refused-numbers (failingCheck h) = (omega arith, omega arith)
 refused-numbers (brokenFigs h p e) = (omega arith, omega arith)
 refused-numbers (brokenFields h gs g p e) = (omega arith, omega arith)
 refused-numbers (badValue h gs g fs e v) = (omega arith, omega arith)
 refused-numbers (noFirst h gs g fs e v s) = (omega arith, omega arith)
 
-pub refused-not-done : (fib : List ℕ) (o : Outcome) → verdict fib ≡ refused o → o ≡ Done → ⊥
+pub refused-not-done : (fib : List ℕ) (o : Outcome) (p : ℕ) → verdict fib ≡ refused o p → o ≡ Done → ⊥
 unfolding numberOf
-refused-not-done fib o e d = omega (arith, ap numberOf d, refused-numbers (refused-full fib o e .1) .0)
+refused-not-done fib o p e d = omega (arith, ap numberOf d, refused-numbers (refused-full fib o p e .1) .0)
 
 -- what has not 32 bytes is no block, and nothing changes
-pub no-block : (t : Content) (fib : List ℕ) → (length fib ≡ 32 → ⊥) → readBlock t fib ≡ record { outcome = NotABlock; notes = []; left = t }
+pub no-block : (t : Content) (fib : List ℕ) → (length fib ≡ 32 → ⊥) → readBlock t fib ≡ record { outcome = NotABlock; place = 0; notes = []; left = t }
 no-block t fib h = answer-none t fib (unfold verdict in rw (ne-eqb (length fib) 32 h))
 
 -- ---- recordings

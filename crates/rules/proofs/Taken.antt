@@ -345,8 +345,8 @@ pub record TakenBlock (fib : List ℕ) (fs : List Field) : Type 0 where
   pub starts : some? emptyStart fields ≡ false
   pub are : map whatOf fields ≡ fs
 
-pub refused-taken {ℓ} : {C : Type ℓ} (o : Outcome) (fs : List Field) → _≡_ {A = Verdict} (refused o) (taken fs) → C
-refused-taken o fs h = let z : _≡_ {A = ℕ} 0 1 = cc in absurd (omega arith)
+pub refused-taken {ℓ} : {C : Type ℓ} (o : Outcome) (p : ℕ) (fs : List Field) → _≡_ {A = Verdict} (refused o p) (taken fs) → C
+refused-taken o p fs h = let z : _≡_ {A = ℕ} 0 1 = cc in absurd (omega arith)
 
 pub noBlock-taken {ℓ} : {C : Type ℓ} (fs : List Field) → _≡_ {A = Verdict} noBlock (taken fs) → C
 noBlock-taken fs h = let z : _≡_ {A = ℕ} 0 1 = cc in absurd (omega arith)
@@ -354,16 +354,16 @@ noBlock-taken fs h = let z : _≡_ {A = ℕ} 0 1 = cc in absurd (omega arith)
 pub fields-taken {ℓ} : {C : Type ℓ} (w : Walk (Placed Field)) (fs : List Field) → judgeFields w ≡ taken fs
     → ((xs : List (Placed Field)) → w ≡ whole xs → some? wrongValue xs ≡ false → some? emptyStart xs ≡ false → map whatOf xs ≡ fs → C) → C
 unfolding judgeFields
-fields-taken (broken p) fs h c = refused-taken _ fs h
+fields-taken (broken p) fs h c = refused-taken _ _ fs h
 fields-taken {C = C} (whole xs) fs h c =
-    cond-cases (λ (v : Verdict). v ≡ taken fs → C) (some? wrongValue xs) _ _ (λ v e. refused-taken _ fs e) (λ v.
-    cond-cases (λ (v : Verdict). v ≡ taken fs → C) (some? emptyStart xs) _ _ (λ s e. refused-taken _ fs e) (λ s e. c xs refl v s cc))
+    cond-cases (λ (v : Verdict). v ≡ taken fs → C) (some? wrongValue xs) _ _ (λ v e. refused-taken _ _ fs e) (λ v.
+    cond-cases (λ (v : Verdict). v ≡ taken fs → C) (some? emptyStart xs) _ _ (λ s e. refused-taken _ _ fs e) (λ s e. c xs refl v s cc))
     h
 
 pub figs-taken {ℓ} : {C : Type ℓ} (w : Walk (Placed Fig)) (fs : List Field) → judgeFigs w ≡ taken fs
     → ((gs : List (Placed Fig)) → w ≡ whole gs → judgeFields (allFields gs) ≡ taken fs → C) → C
 unfolding judgeFigs
-figs-taken (broken p) fs h c = refused-taken _ fs h
+figs-taken (broken p) fs h c = refused-taken _ _ fs h
 figs-taken (whole gs) fs h c = c gs refl h
 
 -- what is known of a block that is taken
@@ -385,7 +385,7 @@ taken-block fib fs =
       starts = s;
       are = a;
     })))
-    (λ c e. refused-taken _ fs e))
+    (λ c e. refused-taken _ _ fs e))
     (λ l e. noBlock-taken fs e)
 
 -- a taken block has at most 14 fields

@@ -1,7 +1,7 @@
 -- Numbered outcomes (document 01): each one's number, the order of testing, and what is left.
 -- That a given table meets the rules in its one stored form is tested first of all, where the table is stored (crate table).
-use Prim.Native.Nat.{ℕ, zero, suc, _/_, _%_}
-use mathlib.Core.Bool.{Bool, false, cond, _||_}
+use Prim.Native.Nat.{ℕ, zero, suc, _+_, _/_, _%_}
+use mathlib.Core.Bool.{Bool, true, false, cond, _||_}
 use mathlib.Core.List.{List, [], _∷_, _++_, map}
 use mathlib.Core.Option.{Option, none, some}
 use lib.ListN.{length, take, drop}
@@ -10,7 +10,7 @@ use Rattle.rules.specs.declared.Outcome.{Outcome}
 use Rattle.rules.specs.declared.Outcome.the-variants.{Done, NotABlock, CheckFails, WrongFig, WrongField, WrongValue, EmptyStart, NotHeld, ShortBuffer, WrongTable, NotASheet, NotShown, TooMuch, TooManyPieces, BadCode}
 use Rattle.rules.specs.declared.Note.{Note}
 use Rattle.rules.specs.declared.Note.the-variants.{Opened, ShownAndOpened, Added, NoOpenList, Full, TooLong, StateOnly, UnknownKey, Dropped}
-use Rattle.rules.specs.Block.{Placed, whatOf, Walk, whole, broken, Fig, figs, checkHolds}
+use Rattle.rules.specs.Block.{bit, Placed, whatOf, Walk, whole, broken, Fig, figs, checkHolds}
 use Rattle.rules.specs.Field.{Field, isLinking, fieldsOf, wrongValue, emptyStart, numberIn, kindIn}
 use Rattle.rules.specs.Family.{steps, dropOpen, forget, find}
 use Rattle.rules.specs.Collecting.{linkage, IdSet, Held, Content, withSets, said}
@@ -47,10 +47,11 @@ noteNumber Dropped = 9
 
 -- ---- what is in a block: 1 to 6 in that order, each over the whole block before the next
 
--- a block is taken, with its fields, or refused for what is in it; or it is no block
+-- a block is taken, with its fields, or refused for what is in it, with the place where (document 02, R-1: a place is counted from 0
+-- in the block); or it is no block
 pub data Verdict : Type 0 where
   taken : List Field → Verdict
-  refused : Outcome → Verdict
+  refused : Outcome → ℕ → Verdict
   noBlock : Verdict
 
 -- two walks, one after the other
@@ -68,29 +69,38 @@ unfoldable pub some? : (Field → Bool) → List (Placed Field) → Bool
 some? p [] = false
 some? p (f ∷ fs) = p (f .what) || some? p fs
 
--- 5, then 6
+-- the place of the first field that has a fault
+unfoldable pub firstPlace : (Field → Bool) → List (Placed Field) → ℕ
+firstPlace p [] = 0
+firstPlace p (f ∷ fs) = cond (p (f .what)) (f .place) (firstPlace p fs)
+
+-- 5, then 6: the place is that of the first field at fault within the class answered
 unfoldable pub judgeFields : Walk (Placed Field) → Verdict
-judgeFields (broken p) = refused WrongField
+judgeFields (broken p) = refused WrongField p
 judgeFields (whole fs) =
-    cond (some? wrongValue fs) (refused WrongValue) (cond (some? emptyStart fs) (refused EmptyStart) (taken (map whatOf fs)))
+    cond (some? wrongValue fs) (refused WrongValue (firstPlace wrongValue fs))
+    (cond (some? emptyStart fs) (refused EmptyStart (firstPlace emptyStart fs))
+    (taken (map whatOf fs)))
 
 -- 4, then those
 unfoldable pub judgeFigs : Walk (Placed Fig) → Verdict
-judgeFigs (broken p) = refused WrongFig
+judgeFigs (broken p) = refused WrongFig p
 judgeFigs (whole gs) = judgeFields (allFields gs)
 
 -- 1, 2, 3, then those
 unfoldable pub verdict : List ℕ → Verdict
 verdict fib =
     cond (eqb (length fib) 32)
-    (cond (checkHolds fib) (judgeFigs (figs fib)) (refused CheckFails))
+    (cond (checkHolds fib) (judgeFigs (figs fib)) (refused CheckFails 0))
     noBlock
 
 -- ---- reading a block
 
--- the answer to a block: its outcome, one note a field where it is taken, and what the table then holds
+-- the answer to a block: its outcome, the place where a refused block broke and else 0, one note a field where it is taken, and
+-- what the table then holds
 pub record Answer : Type 0 where
   pub outcome : Outcome
+  pub place : ℕ
   pub notes : List Note
   pub left : Content
 
@@ -98,9 +108,9 @@ pub record Answer : Type 0 where
 unfoldable pub answerTo : Content → Verdict → Answer
 answerTo t (taken fs) =
     let r = steps linkage (t .sets) (map said fs) in
-    record { outcome = Done; notes = r .1; left = withSets t (r .0) }
-answerTo t (refused o) = record { outcome = o; notes = []; left = withSets t (dropOpen linkage (t .sets)) }
-answerTo t noBlock = record { outcome = NotABlock; notes = []; left = t }
+    record { outcome = Done; place = 0; notes = r .1; left = withSets t (r .0) }
+answerTo t (refused o p) = record { outcome = o; place = p; notes = []; left = withSets t (dropOpen linkage (t .sets)) }
+answerTo t noBlock = record { outcome = NotABlock; place = 0; notes = []; left = t }
 
 unfoldable pub readBlock : Content → List ℕ → Answer
 readBlock t fib = answerTo t (verdict fib)
@@ -110,12 +120,40 @@ unfoldable pub readBlocks : ℕ → Content → List ℕ → Content
 readBlocks zero t bytes = t
 readBlocks (suc n) t bytes = readBlocks n (readBlock t (take 32 bytes) .left) (drop 32 bytes)
 
+-- a start found no room: its note says so
+unfoldable pub isFull : Note → Bool
+isFull Opened = false
+isFull ShownAndOpened = false
+isFull Added = false
+isFull NoOpenList = false
+isFull Full = true
+isFull TooLong = false
+isFull StateOnly = false
+isFull UnknownKey = false
+isFull Dropped = false
+
+-- how many of these notes say so
+unfoldable pub withoutRoom : List Note → ℕ
+withoutRoom [] = 0
+withoutRoom (n ∷ ns) = bit (isFull n) + withoutRoom ns
+
+-- the starts that found no room in the first n blocks
+unfoldable pub roomlessBlocks : ℕ → Content → List ℕ → ℕ
+roomlessBlocks zero t bytes = 0
+roomlessBlocks (suc n) t bytes =
+    let a = readBlock t (take 32 bytes) in
+    withoutRoom (a .notes) + roomlessBlocks n (a .left) (drop 32 bytes)
+
 -- a recording: its whole blocks; the bytes left over are no block
 unfoldable pub readRecording : Content → List ℕ → Content
 readRecording t bytes = readBlocks (length bytes / 32) t bytes
 
 unfoldable pub leftOver : List ℕ → ℕ
 leftOver bytes = length bytes % 32
+
+-- and how many of its starts found no room
+unfoldable pub roomless : Content → List ℕ → ℕ
+roomless t bytes = roomlessBlocks (length bytes / 32) t bytes
 
 -- ---- forgetting, copying out: 7, 11, 8 in that order
 
