@@ -14,7 +14,7 @@ use Rattle.block.specs.Judged.{noSpots, judgedAs, judged}
 use Rattle.block.specs.Faults.{JudgesFigs}
 
 module _ (fib : List ℕ) (r : Judged) where
-  pub judges-no-block : (length fib ≡ 32 → ⊥) → r ≡ record { outcome = NotABlock; spots = noSpots } → r ≡ judged fib
+  pub judges-no-block : (length fib ≡ 32 → ⊥) → r ≡ record { outcome = NotABlock; place = 0; spots = noSpots } → r ≡ judged fib
   unfolding judged judgedAs verdict
   judges-no-block l e = rw (ne-eqb (length fib) 32 l) e
 
@@ -22,7 +22,7 @@ module _ (fib : List ℕ) (r : Judged) where
     check-is : checkHolds fib ≡ b
     check-is = sym (t ∙ ap (λ (x : Bool). x && checkHolds fib) (eq-eqb (length fib) 32 l))
 
-    pub judges-check : b ≡ false → r ≡ record { outcome = CheckFails; spots = noSpots } → r ≡ judged fib
+    pub judges-check : b ≡ false → r ≡ record { outcome = CheckFails; place = 0; spots = noSpots } → r ≡ judged fib
     unfolding judged judgedAs verdict
     judges-check f e = rw (eq-eqb (length fib) 32 l, check-is ∙ f) e
 

@@ -1,6 +1,6 @@
 -- The two loops of a block, in this order: a body's bytes and the fields found there; the loop over the fields of a body, its
 -- invariant, its first turn, a field more, its end and its break; the loop over the FIGs of a block likewise.
-use Prim.Native.Nat.{ℕ, zero, suc, _+_, _*_, _-_, _≤_, _<_, min}
+use Prim.Native.Nat.{ℕ, zero, suc, _+_, _*_, _-_, _≤_, _<_}
 use native.Mathlib.Omega.{arith}
 use mathlib.Core.Path.{_≡_, refl, sym, ap, ap₂, _∙_}
 use mathlib.Core.Bool.{Bool, true, false, cond}
@@ -8,7 +8,7 @@ use mathlib.Core.List.{List, [], _∷_, _++_, map}
 use lib.ListN.{length, take, drop, length-take, length-drop}
 use Rattle.rules.specs.declared.Outcome.the-variants.{WrongFig}
 use Rattle.rules.specs.Block.{Placed, Walk, whole, broken, after, walk, Fig as FigOf, figAt, figs}
-use Rattle.rules.specs.Field.{isLinking, fieldAt, fieldsOf}
+use Rattle.rules.specs.Field.{isLinking, fieldAt, fieldsOf, wrongValue, emptyStart}
 use Rattle.rules.specs.Outcomes.{joined, judgeFigs}
 use Rattle.rules.proofs.Taken.{walk-item, walk-end, walk-wrong, block-item, block-wrong, field-item}
 use Rattle.figs.specs.declared.Cursor.{Cursor}
@@ -22,12 +22,13 @@ use Rattle.field.specs.declared.FieldStep.the-variants.{Found, End, Wrong}
 use Rattle.field.specs.FieldStep.{linking, fieldStepAt, meaning, found}
 use Rattle.field.proofs.Laws.{fieldStepAt-means, wrong-value-means, empty-start-means}
 use Rattle.block.specs.declared.Spots.{Spots}
+use Rattle.block.specs.declared.Fault.{Fault}
 use Rattle.block.specs.declared.Pushed.{Pushed}
 use Rattle.block.specs.declared.Judged.{Judged}
 use Rattle.block.specs.Judged.{Located, spotOf, mapWalk, standing, locatedOf, located, noSpots, storeSpots, judgedAs}
-use Rattle.block.specs.Faults.{faultIn, faultOf, judgeFrom, locatedFrom, locatedIn, CanPush, Pushes, Concludes, JudgesFigs}
+use Rattle.block.specs.Faults.{classIn, worse, faultAt, noFault, faultOf, judgeFrom, locatedFrom, locatedIn, CanPush, Pushes, Concludes, JudgesFigs}
 use Rattle.block.proofs.Walks.{joined-none, joined-after, map-after}
-use Rattle.block.proofs.Verdicts.{judge-after, judge-broken, faultOf-range, judgeFigsFrom, figs-first, figs-after, figs-over, figs-none, figs-wrong}
+use Rattle.block.proofs.Verdicts.{worse-class, worse-field, faultOf-range, judge-after, judge-broken, judgeFigsFrom, figs-first, figs-after, figs-over, figs-none, figs-wrong}
 use Rattle.block.proofs.Storing.{stored-none, withSpot, stored-more}
 
 -- ---- a field that is found
@@ -67,19 +68,19 @@ module _ (fib : List ℕ) (start stop n at : ℕ) where
   from-wrong e =
       ap (mapWalk (standing start stop)) (walk-wrong start (fieldAt (body fib start stop)) n at (stands-as (body fib start stop) at Wrong e))
 
-fault-means : (bytes : List ℕ) (f : Field) → faultIn f ≡ faultOf (meaning bytes f)
-unfolding faultIn faultOf
-fault-means bytes f = ap₂ (λ (b c : Bool). cond b 5 (cond c 6 7)) (wrong-value-means bytes f) (empty-start-means bytes f)
+class-means : (bytes : List ℕ) (f : Field) → classIn f ≡ cond (wrongValue (meaning bytes f)) 5 (cond (emptyStart (meaning bytes f)) 6 7)
+unfolding classIn
+class-means bytes f = ap₂ (λ (b c : Bool). cond b 5 (cond c 6 7)) (wrong-value-means bytes f) (empty-start-means bytes f)
 
 -- ---- the loop over the fields of a body
 
 -- what has been found at a place of a body, after fault₀ and spots₀ before it: n more steps are left to the walk, enough to
 -- reach the end
-pub record FieldsSoFar (fib : List ℕ) (start stop fault₀ : ℕ) (spots₀ : Spots) (fault : ℕ) (spots : Spots) (at : ℕ) : Type 0 where
+pub record FieldsSoFar (fib : List ℕ) (start stop : ℕ) (fault₀ : Fault) (spots₀ : Spots) (fault : Fault) (spots : Spots) (at : ℕ) : Type 0 where
   pub within : start + at ≤ stop
   pub room : 2 * spots .count + 2 ≤ start + at
-  pub least : 4 ≤ fault
-  pub most : fault ≤ 7
+  pub least : 4 ≤ fault .class
+  pub most : fault .class ≤ 7
   pub fields :
       (ls : List Located) → spots₀ ≡ storeSpots (map spotOf ls)
       → (more : List Located)
@@ -103,7 +104,7 @@ fields-first fib start stop before p =
       fields = λ ls q. (ls, stop - start, omega (arith, p .holds), q, λ rest. refl);
     }
 
-module _ (fib : List ℕ) (start stop fault₀ : ℕ) (spots₀ : Spots) (fault : ℕ) (spots : Spots) (at : ℕ)
+module _ (fib : List ℕ) (start stop : ℕ) (fault₀ : Fault) (spots₀ : Spots) (fault : Fault) (spots : Spots) (at : ℕ)
     (block : length fib ≡ 32) (inside : stop ≤ 30) (so : FieldsSoFar fib start stop fault₀ spots₀ fault spots at) where
   -- the steps left are not used up
   spare : (n : ℕ) → stop < start + at + n → (m : ℕ) × (n ≡ suc m)
@@ -141,15 +142,16 @@ module _ (fib : List ℕ) (start stop fault₀ : ℕ) (spots₀ : Spots) (fault 
     field-goes-on = omega (arith, stands)
 
     -- a field more
-    pub fields-next : FieldsSoFar fib start stop fault₀ spots₀ (min fault (faultIn f)) (withSpot spots (record { start = start; end = stop; place = at })) next
+    pub fields-next : FieldsSoFar fib start stop fault₀ spots₀ (worse fault (faultAt (classIn f) (start + at))) (withSpot spots (record { start = start; end = stop; place = at })) next
     fields-next =
-        let range = faultOf-range (meaning (body fib start stop) f) in
-        let same = fault-means (body fib start stop) f in
+        let g = spotted fib start stop at f .field in
+        let same = worse-field g fault (classIn f) (so .most) (class-means (body fib start stop) f) in
+        let class = ap (λ (x : Fault). x .class) same ∙ worse-class fault (faultOf g) in
         record {
           within = stands .1;
           room = omega (arith, stands, so .room);
-          least = omega (arith, so .least);
-          most = omega (arith, so .most);
+          least = omega (arith, so .least, class, faultOf-range g);
+          most = omega (arith, so .most, class);
           fields = λ ls q.
               let more = so .fields ls q .0 in
               let n = fewer ls q in
@@ -163,8 +165,8 @@ module _ (fib : List ℕ) (start stop fault₀ : ℕ) (spots₀ : Spots) (fault 
                     ∙ stored-more spots more l (so .fields ls q .3) field-room,
                 λ rest. fields-judged ls q _ (from-found fib start stop n at f next e) rest
                     ∙ ap (judgeFrom fault more) (joined-after l w rest)
-                    ∙ judge-after fault more l (joined w rest)
-                    ∙ ap (λ (k : ℕ). judgeFrom (min fault k) (more ++ l ∷ []) (joined w rest)) (sym same),
+                    ∙ judge-after fault more l (joined w rest) (so .least)
+                    ∙ ap (λ (x : Fault). judgeFrom x (more ++ l ∷ []) (joined w rest)) (sym same),
               );
         }
 
@@ -184,19 +186,19 @@ module _ (fib : List ℕ) (start stop fault₀ : ℕ) (spots₀ : Spots) (fault 
         );
       }
 
-  -- at a field that does not fit the fault is 4, whatever comes
+  -- at a field that does not fit the class is 4, whatever comes, and the place this field's, unless one before it did not fit
   pub fields-wrong : fieldStepAt (body fib start stop) at ≡ Wrong
-      → Pushes fib start stop (record { fault = fault₀; spots = spots₀ }) (record { fault = 4; spots = spots })
+      → Pushes fib start stop (record { fault = fault₀; spots = spots₀ }) (record { fault = worse fault (faultAt 4 (start + at)); spots = spots })
   fields-wrong e =
       record {
         room = omega (arith, so .room, so .within);
-        least = omega arith;
-        most = omega arith;
+        least = omega (arith, so .least, worse-class fault (faultAt 4 (start + at)));
+        most = omega (arith, worse-class fault (faultAt 4 (start + at)));
         fields = λ ls q. (
           so .fields ls q .0,
           so .fields ls q .3,
           λ rest. fields-judged ls q (broken (start + at)) (from-wrong fib start stop (fewer ls q) at e) rest
-              ∙ judge-broken fault (so .fields ls q .0) (so .fields ls q .0) (start + at) rest,
+              ∙ judge-broken fault (so .fields ls q .0) (so .fields ls q .0) (start + at) rest (so .least),
         );
       }
 
@@ -206,18 +208,19 @@ module _ (fib : List ℕ) (start stop fault₀ : ℕ) (spots₀ : Spots) (fault 
 pub record FigsSoFar (fib : List ℕ) (found : Pushed) (at : ℕ) : Type 0 where
   pub within : at ≤ 30
   pub room : 2 * found .spots .count ≤ at
-  pub least : 4 ≤ found .fault
-  pub most : found .fault ≤ 7
+  pub least : 4 ≤ found .fault .class
+  pub most : found .fault .class ≤ 7
   pub fields : List Located
   pub stored : found .spots ≡ storeSpots (map spotOf fields)
   pub left : ℕ
   pub spare : 30 < at + left
   pub same : judgedAs (judgeFigs (figs fib)) (located fib) ≡ judgeFigsFrom (found .fault) fields (walk 0 (figAt fib) left at)
 
-pub figs-begin : (fib : List ℕ) (found : Pushed) (at : ℕ) → found .fault ≡ 7 → found .spots ≡ noSpots → at ≡ 0 → FigsSoFar fib found at
+pub figs-begin : (fib : List ℕ) (found : Pushed) (at : ℕ) → found .fault ≡ noFault → found .spots ≡ noSpots → at ≡ 0 → FigsSoFar fib found at
 unfolding storeSpots figs
 figs-begin fib found at f s a =
     let none : found .spots .count ≡ 0 = ap (λ (x : Spots). x .count) (s ∙ stored-none) in
+    let class : found .fault .class ≡ 7 = ap (λ (x : Fault). x .class) f in
     record {
       within = omega arith;
       room = omega arith;
@@ -227,7 +230,7 @@ figs-begin fib found at f s a =
       stored = s ∙ stored-none;
       left = 31;
       spare = omega arith;
-      same = figs-first fib ∙ ap₂ (λ (k p : ℕ). judgeFigsFrom k [] (walk 0 (figAt fib) 31 p)) (sym f) (sym a);
+      same = figs-first fib ∙ ap₂ (λ (x : Fault) (p : ℕ). judgeFigsFrom x [] (walk 0 (figAt fib) 31 p)) (sym f) (sym a);
     }
 
 module _ (fib : List ℕ) (found : Pushed) (at : ℕ) (block : length fib ≡ 32) (so : FigsSoFar fib found at) where
@@ -259,7 +262,7 @@ module _ (fib : List ℕ) (found : Pushed) (at : ℕ) (block : length fib ≡ 32
       ∙ sym (figs-from (whole []) (walk-end 0 (figAt fib) less at (fig-as FigEnd e)) ∙ figs-none (found .fault) (so .fields) (so .most))
 
   -- at a FIG whose length is wrong
-  pub figs-break : stepAt fib at ≡ FigWrong → (r : Judged) → r ≡ record { outcome = WrongFig; spots = noSpots } → JudgesFigs fib r
+  pub figs-break : stepAt fib at ≡ FigWrong → (r : Judged) → r ≡ record { outcome = WrongFig; place = at; spots = noSpots } → JudgesFigs fib r
   unfolding figFound JudgesFigs judgedAs
   figs-break e r a =
       a ∙ sym (figs-from (broken at) (block-wrong (figAt fib) less at (fig-as FigWrong e)) ∙ figs-wrong (found .fault) (so .fields) at)

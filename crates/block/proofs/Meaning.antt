@@ -49,11 +49,11 @@ pub record SpotsAre (fib : List ℕ) (spots : Spots) (fs : List FieldOf) : Type 
   pub few : length fs ≤ 14
   pub each : (i : ℕ) → i < length fs → SpotIs fib (getD (spots .spots) i noSpot) (getD fs i noField)
 
--- an answer says a verdict on a block: done, and all the fields; or the outcome that refuses, and none
+-- an answer says a verdict on a block: done, and all the fields; or the outcome that refuses, with its place, and none
 pub data JudgedAs (fib : List ℕ) (v : Verdict) (r : Judged) : Type 0 where
-  isTaken : (fs : List FieldOf) → v ≡ taken fs → r .outcome ≡ Done → SpotsAre fib (r .spots) fs → JudgedAs fib v r
-  isRefused : (o : Outcome) → v ≡ refused o → r .outcome ≡ o → r .spots .count ≡ 0 → JudgedAs fib v r
-  isNoBlock : v ≡ noBlock → r .outcome ≡ NotABlock → r .spots .count ≡ 0 → JudgedAs fib v r
+  isTaken : (fs : List FieldOf) → v ≡ taken fs → r .outcome ≡ Done → r .place ≡ 0 → SpotsAre fib (r .spots) fs → JudgedAs fib v r
+  isRefused : (o : Outcome) (p : ℕ) → v ≡ refused o p → r .outcome ≡ o → r .place ≡ p → r .spots .count ≡ 0 → JudgedAs fib v r
+  isNoBlock : v ≡ noBlock → r .outcome ≡ NotABlock → r .place ≡ 0 → r .spots .count ≡ 0 → JudgedAs fib v r
 
 -- ---- a field at a place
 
@@ -146,9 +146,9 @@ spots-are fib fs v =
 
 said-as : (fib : List ℕ) (v : Verdict) → verdict fib ≡ v → JudgedAs fib v (judgedAs v (located fib))
 unfolding judgedAs noSpots
-said-as fib (taken fs) e = isTaken fs refl refl (spots-are fib fs e)
-said-as fib (refused o) e = isRefused o refl refl refl
-said-as fib noBlock e = isNoBlock refl refl refl
+said-as fib (taken fs) e = isTaken fs refl refl refl (spots-are fib fs e)
+said-as fib (refused o p) e = isRefused o p refl refl refl refl
+said-as fib noBlock e = isNoBlock refl refl refl refl
 
 -- what a block is judged to be says the verdict of the rules
 pub judged-says : (fib : List ℕ) → JudgedAs fib (verdict fib) (judged fib)
@@ -162,17 +162,17 @@ says fib e = subst (JudgedAs fib (verdict fib)) (sym e) (judged-says fib)
 
 pub data JudgeAnswer (fib : List ℕ) (r : Judged) : Type 0 where
   -- 0, with one spot a field
-  done : (fs : List FieldOf) → verdict fib ≡ taken fs → numberOf (r .outcome) ≡ 0 → r .spots .count ≡ length fs → JudgeAnswer fib r
+  done : (fs : List FieldOf) → verdict fib ≡ taken fs → numberOf (r .outcome) ≡ 0 → r .place ≡ 0 → r .spots .count ≡ length fs → JudgeAnswer fib r
   -- 1
-  notABlock : (length fib ≡ 32 → ⊥) → numberOf (r .outcome) ≡ 1 → r .spots ≡ noSpots → JudgeAnswer fib r
-  -- 2 to 6, each for its reason
-  refusedBlock : length fib ≡ 32 → Refused fib (numberOf (r .outcome)) → r .spots ≡ noSpots → JudgeAnswer fib r
+  notABlock : (length fib ≡ 32 → ⊥) → numberOf (r .outcome) ≡ 1 → r .place ≡ 0 → r .spots ≡ noSpots → JudgeAnswer fib r
+  -- 2 to 6, each for its reason, at its place
+  refusedBlock : length fib ≡ 32 → Refused fib (numberOf (r .outcome)) (r .place) → r .spots ≡ noSpots → JudgeAnswer fib r
 
 answer-as : (fib : List ℕ) (v : Verdict) → verdict fib ≡ v → JudgeAnswer fib (judgedAs v (located fib))
 unfolding judgedAs numberOf
-answer-as fib (taken fs) e = done fs e refl (spots-are fib fs e .count)
-answer-as fib (refused o) e = let f = refused-full fib o e in refusedBlock (f .0) (f .1) refl
-answer-as fib noBlock e = notABlock (λ l. subst (Refusal fib) e (full-refusal fib l)) refl refl
+answer-as fib (taken fs) e = done fs e refl refl (spots-are fib fs e .count)
+answer-as fib (refused o p) e = let f = refused-full fib o p e in refusedBlock (f .0) (f .1) refl
+answer-as fib noBlock e = notABlock (λ l. subst (Refusal fib) e (full-refusal fib l)) refl refl refl
 
 pub judge-answers : (fib : List ℕ) (r : Judged) → r ≡ judged fib → JudgeAnswer fib r
 unfolding judged

@@ -1,5 +1,5 @@
 -- Spots as they are stored, in this order: none; one more; the answer at the end of the FIGs, one that refuses and one that takes.
-use Prim.Native.Nat.{_+_, _-_, _<_}
+use Prim.Native.Nat.{ℕ, _+_, _-_, _<_}
 use native.Mathlib.Omega.{arith}
 use mathlib.Core.Path.{_≡_, refl, sym, ap, _∙_}
 use mathlib.Core.List.{List, [], _∷_, _++_, map}
@@ -35,13 +35,14 @@ stored-more spots ls l e h =
 -- ---- the answer, by the fault
 
 module _ (found : Pushed) (r : Judged) where
-  pub concludes-refused : (o : Outcome) → ((ls : List Located) → answerOf (found .fault) ls ≡ record { outcome = o; spots = noSpots })
-      → r ≡ record { outcome = o; spots = noSpots } → Concludes found r
+  pub concludes-refused : (o : Outcome) (p : ℕ)
+      → ((ls : List Located) → answerOf (found .fault) ls ≡ record { outcome = o; place = p; spots = noSpots })
+      → r ≡ record { outcome = o; place = p; spots = noSpots } → Concludes found r
   unfolding Concludes
-  concludes-refused o h e = λ ls s. e ∙ sym (h ls)
+  concludes-refused o p h e = λ ls s. e ∙ sym (h ls)
 
   pub concludes-taken :
-      ((ls : List Located) → answerOf (found .fault) ls ≡ record { outcome = Done; spots = storeSpots (map spotOf ls) })
-      → r ≡ record { outcome = Done; spots = found .spots } → Concludes found r
+      ((ls : List Located) → answerOf (found .fault) ls ≡ record { outcome = Done; place = 0; spots = storeSpots (map spotOf ls) })
+      → r ≡ record { outcome = Done; place = 0; spots = found .spots } → Concludes found r
   unfolding Concludes
-  concludes-taken h e = λ ls s. e ∙ ap (λ (x : Spots). record { outcome = Done; spots = x }) s ∙ sym (h ls)
+  concludes-taken h e = λ ls s. e ∙ ap (λ (x : Spots). record { outcome = Done; place = 0; spots = x }) s ∙ sym (h ls)

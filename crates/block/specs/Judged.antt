@@ -1,5 +1,5 @@
--- What judging a block answers: where the fields of a taken block stand in it, in order, or the outcome that refuses it; and
--- what is read again at a spot.
+-- What judging a block answers: where the fields of a taken block stand in it, in order, or the outcome that refuses it, with
+-- its place; and what is read again at a spot.
 use Prim.Native.Nat.{ℕ, _+_, _-_}
 use mathlib.Core.Bool.{cond}
 use mathlib.Core.List.{List, [], _∷_, map}
@@ -100,11 +100,11 @@ noSpots = record { spots = replicate 14 noSpot; count = 0 }
 unfoldable pub storeSpots : List Spot → Spots
 storeSpots ss = record { spots = padded 14 noSpot ss; count = length ss }
 
--- the answer that says a verdict: done, and where the fields stand; or the outcome that refuses, and none
+-- the answer that says a verdict: done, and where the fields stand; or the outcome that refuses, with its place, and none
 unfoldable pub judgedAs : Verdict → List Located → Judged
-judgedAs (taken fs) ls = record { outcome = Done; spots = storeSpots (map spotOf ls) }
-judgedAs (refused o) ls = record { outcome = o; spots = noSpots }
-judgedAs noBlock ls = record { outcome = NotABlock; spots = noSpots }
+judgedAs (taken fs) ls = record { outcome = Done; place = 0; spots = storeSpots (map spotOf ls) }
+judgedAs (refused o p) ls = record { outcome = o; place = p; spots = noSpots }
+judgedAs noBlock ls = record { outcome = NotABlock; place = 0; spots = noSpots }
 
 -- what a block is judged to be
 unfoldable pub judged : List ℕ → Judged

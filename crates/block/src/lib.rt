@@ -1,11 +1,11 @@
 // What is in a block (document 01, Numbered outcomes): a block is taken, with its fields in order, or refused for 1 to 6 in
-// that order, each over the whole block before the next. One pass over the block finds both: the order of 4, 5 and 6 is
-// kept by a fault that only falls, from 7, no fault, to the smallest that any field has.
+// that order, each over the whole block before the next, at the place of the first fault of the class answered. One pass over the
+// block finds all of it: the order of 4, 5 and 6 is kept by a fault whose class only falls, from 7, no fault, to the smallest that any
+// field has, and whose place is that of the first field of that class.
 ghost use mathlib.Core.Path.{_≡_};
-ghost use Prim.Native.Nat.{min};
 ghost use lib.ListN.{length};
 ghost use Rattle.block.specs.Judged.{nothing, fieldIn, noSpots, judged};
-ghost use Rattle.block.specs.Faults.{faultIn, JudgesFigs, Concludes, CanPush, Pushes};
+ghost use Rattle.block.specs.Faults.{classIn, worse, JudgesFigs, Concludes, CanPush, Pushes};
 use field::Field;
 use field::FieldStep;
 use figs::Cursor;
@@ -26,16 +26,24 @@ pub struct Spots {
     pub count: usize,
 }
 
-// What a block is judged to be. A refused block has no fields.
+// What a block is judged to be. A refused block has a place, counted from 0 in the block, which is 0 where its check fails, and no
+// fields; any other has the place 0.
 pub struct Judged {
     pub outcome: Outcome,
+    pub place: usize,
     pub spots: Spots,
 }
 
-// What has been found in the FIGs so far: the smallest fault of a field (4 it does not fit, 5 a wrong value, 6 an empty
-// start, 7 none), and the fields.
+// A fault of a field: its class (4 the field does not fit, 5 a wrong value, 6 an empty start, 7 none), and the field's place in the
+// block.
+struct Fault {
+    class: u8,
+    place: usize,
+}
+
+// What has been found in the FIGs so far: the first fault of the smallest class, and the fields.
 struct Pushed {
-    fault: u8,
+    fault: Fault,
     spots: Spots,
 }
 
@@ -87,19 +95,20 @@ impl Spot {
     }
 }
 
-// A block refused, with no fields.
-fn refuse(outcome: Outcome) -> Judged
-    ensures { λ r. ⌜ r ≡ record { outcome = outcome; spots = noSpots } ⌝ }
+// A block refused at a place, with no fields.
+fn refuse(outcome: Outcome, place: usize) -> Judged
+    ensures { λ r. ⌜ r ≡ record { outcome = outcome; place = place; spots = noSpots } ⌝ }
 {
     Judged {
         outcome,
+        place,
         spots: no_spots(),
     }
 }
 
-// The fault of a field: 5 a wrong value, 6 an empty start, 7 none.
-fn fault_in(f: Field) -> u8
-    ensures { λ r. ⌜ r ≡ faultIn f ⌝ }
+// The class of a field's fault: 5 a wrong value, 6 an empty start, 7 none.
+fn class_in(f: Field) -> u8
+    ensures { λ r. ⌜ r ≡ classIn f ⌝ }
 {
     if f.wrong_value() {
         return 5;
@@ -110,11 +119,15 @@ fn fault_in(f: Field) -> u8
     7
 }
 
-// The smaller of two faults.
-fn smaller(a: u8, b: u8) -> u8
-    ensures { λ r. ⌜ r ≡ min a b ⌝ }
+// The fault so far, or that of a field behind it: the one of the smaller class, and of one class the first.
+fn worse_of(fault: Fault, class: u8, place: usize) -> Fault
+    ensures { λ r. ⌜ r ≡ worse fault (record { class = class; place = place }) ⌝ }
 {
-    if a < b { a } else { b }
+    if class < fault.class {
+        Fault { class, place }
+    } else {
+        fault
+    }
 }
 
 // With the fields of a FIG's body fib[start..end] besides.
@@ -130,9 +143,14 @@ fn push_fields(fib: &[u8], start: usize, end: usize, before: Pushed) -> Pushed
         let step = field::field_at(body, at);
         match step {
             FieldStep::End => return Pushed { fault, spots },
-            FieldStep::Wrong => return Pushed { fault: 4, spots },
+            FieldStep::Wrong => {
+                return Pushed {
+                    fault: worse_of(fault, 4, start + at),
+                    spots,
+                };
+            }
             FieldStep::Found(f, next) => {
-                fault = smaller(fault, fault_in(f));
+                fault = worse_of(fault, class_in(f), start + at);
                 let n = spots.count;
                 spots.spots[n] = Spot {
                     start: start as u8,
@@ -146,23 +164,25 @@ fn push_fields(fib: &[u8], start: usize, end: usize, before: Pushed) -> Pushed
     }
 }
 
-// The outcome of a block whose FIGs are all right, by the smallest fault of its fields.
+// The outcome of a block whose FIGs are all right, by the first fault of the smallest class.
 fn conclude(found: Pushed) -> Judged
     ensures { λ r. ⌜ Concludes found r ⌝ }
 {
-    let fault = found.fault;
-    if fault == 4 {
-        return refuse(Outcome::WrongField);
+    let class = found.fault.class;
+    let place = found.fault.place;
+    if class == 4 {
+        return refuse(Outcome::WrongField, place);
     }
-    if fault == 5 {
-        return refuse(Outcome::WrongValue);
+    if class == 5 {
+        return refuse(Outcome::WrongValue, place);
     }
-    if fault == 6 {
-        return refuse(Outcome::EmptyStart);
+    if class == 6 {
+        return refuse(Outcome::EmptyStart, place);
     }
     let spots = found.spots;
     Judged {
         outcome: Outcome::Done,
+        place: 0,
         spots,
     }
 }
@@ -174,14 +194,14 @@ fn judge_figs(fib: &[u8]) -> Judged
 {
     let mut cursor = Cursor::first();
     let mut found = Pushed {
-        fault: 7,
+        fault: Fault { class: 7, place: 0 },
         spots: no_spots(),
     };
     loop {
         let step = cursor.step(fib);
         match step {
             FigStep::End => return conclude(found),
-            FigStep::Wrong => return refuse(Outcome::WrongFig),
+            FigStep::Wrong => return refuse(Outcome::WrongFig, cursor.at),
             FigStep::Fig {
                 kind,
                 start,
@@ -197,15 +217,16 @@ fn judge_figs(fib: &[u8]) -> Judged
     }
 }
 
-// What is in a block: taken, with its fields, or refused (1 to 6 in that order, each over the whole block before the next).
+// What is in a block: taken, with its fields, or refused (1 to 6 in that order, each over the whole block before the next), with the
+// place of the first fault of the class answered.
 pub fn judge(fib: &[u8]) -> Judged
     ensures { λ r. ⌜ r ≡ judged (now (fib .entry)) ⌝ }
 {
     if fib.len() != 32 {
-        return refuse(Outcome::NotABlock);
+        return refuse(Outcome::NotABlock, 0);
     }
     if !crc::check_holds(fib) {
-        return refuse(Outcome::CheckFails);
+        return refuse(Outcome::CheckFails, 0);
     }
     judge_figs(fib)
 }

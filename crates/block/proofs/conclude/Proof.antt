@@ -14,7 +14,7 @@ refuse-requires c κs = search needs
 
 returns : tie.Need-returns
 unfolding answerOf judgedAs
-returns c = concludes-refused _ _ _ (λ ls. simp (eq-eqb _ _ (c .before .if1 .taken))) (c .refuse .ensures)
+returns c = concludes-refused _ _ _ _ (λ ls. simp (eq-eqb _ _ (c .before .if1 .taken))) (c .refuse .ensures)
 
 refuse-requires-2 : tie.Need-refuse-requires-2
 refuse-requires-2 c κs = search needs
@@ -23,7 +23,7 @@ returns-2 : tie.Need-returns-2
 unfolding answerOf judgedAs
 returns-2 c =
     let b = c .before in
-    concludes-refused _ _ _ (λ ls. simp (ne-eqb _ _ (b .before .if1 .left), eq-eqb _ _ (b .if2 .taken))) (c .refuse2 .ensures)
+    concludes-refused _ _ _ _ (λ ls. simp (ne-eqb _ _ (b .before .if1 .left), eq-eqb _ _ (b .if2 .taken))) (c .refuse2 .ensures)
 
 refuse-requires-3 : tie.Need-refuse-requires-3
 refuse-requires-3 c κs = search needs
@@ -32,7 +32,7 @@ returns-3 : tie.Need-returns-3
 unfolding answerOf judgedAs
 returns-3 c =
     let b = c .before in
-    concludes-refused _ _ _
+    concludes-refused _ _ _ _
     (λ ls. simp (ne-eqb _ _ (b .before .before .if1 .left), ne-eqb _ _ (b .before .if2 .left), eq-eqb _ _ (b .if3 .taken)))
     (c .refuse3 .ensures)
 

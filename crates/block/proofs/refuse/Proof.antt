@@ -8,7 +8,7 @@ no-spots-requires : tie.Need-no-spots-requires
 no-spots-requires c κs = search needs
 
 returns : tie.Need-returns
-returns c = λ i. record { outcome = c .before .args .outcome; spots = c .no-spots .ensures i }
+returns c = λ i. record { outcome = c .before .args .outcome; place = c .before .args .place; spots = c .no-spots .ensures i }
 
 pub refuse-spec : {M : Type 1} → statement M
 refuse-spec = tie.close (tie.spec no-spots-requires returns)
