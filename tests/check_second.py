@@ -6,6 +6,7 @@ Prints a line for each check; exit status 1 if one fails.
 """
 
 import copy
+import re
 import sys
 import traceback
 
@@ -14,8 +15,10 @@ sys.dont_write_bytecode = True
 from making import Dice, block, block_of, damaged, linking_fig, more, short, start, whole_list, with_check
 from material import (BAD_SHEETS, DAB, DRM, GOOD_SHEETS, RDS, faulty_block, largest_sheet, long_sheet, many_sets,
                       most_pieces, random_figs, random_keys, random_pairs, sheet_bytes)
+from places import COUNTED, PLACES, random_planned
 from second import air, sheet, spoil, stored
 from second.block import check_of, check_passes
+from second.check import report, report_text
 from second.field import NAME, examine
 from second.listing import listing
 from second.replay import Replay, run
@@ -97,27 +100,27 @@ def examples():
             (1, [EXAMPLE], ["b 0 1", "t 1", once]),
             (2, [EXAMPLE] * 2, ["b 0 1", "b 0 2", "t 1", both]),
             (3, [EXAMPLE] * 2 + [block_of("03 06 20 04")], ["b 0 1", "b 0 2", "b 0 7", "t 1", off]),
-            (4, [EXAMPLE, damaged(EXAMPLE), EXAMPLE], ["b 0 1", "b 2", "b 0 1", "t 1", once]),
+            (4, [EXAMPLE, damaged(EXAMPLE), EXAMPLE], ["b 0 1", "b 2 @0", "b 0 1", "t 1", once]),
             (5, [block_of("FF")], ["b 0", "t 0"]),
-            (6, [EXAMPLE, block_of("00")], ["b 0 1", "b 3", "t 1", none]),
-            (7, [EXAMPLE, block_of("02 06 20")], ["b 0 1", "b 4", "t 1", none]),
-            (8, [EXAMPLE, block_of("03 06 20 00")], ["b 0 1", "b 5", "t 1", none]),
-            (9, [EXAMPLE, block_of("04 06 E0 04 00")], ["b 0 1", "b 6", "t 1", none]),
-            (10, [block_of("04 26 36 E0 04"), block_of("04 26 36 E0 04 00")], ["b 4", "b 3", "t 0"]),
-            (11, [EXAMPLE, EXAMPLE[:31]], ["b 0 1", "b 1", "t 1", once]),
+            (6, [EXAMPLE, block_of("00")], ["b 0 1", "b 3 @0", "t 1", none]),
+            (7, [EXAMPLE, block_of("02 06 20")], ["b 0 1", "b 4 @2", "t 1", none]),
+            (8, [EXAMPLE, block_of("03 06 20 00")], ["b 0 1", "b 5 @2", "t 1", none]),
+            (9, [EXAMPLE, block_of("04 06 E0 04 00")], ["b 0 1", "b 6 @2", "t 1", none]),
+            (10, [block_of("04 26 36 E0 04"), block_of("04 26 36 E0 04 00")], ["b 4 @4", "b 3 @5", "t 0"]),
+            (11, [EXAMPLE, EXAMPLE[:31]], ["b 0 1", "b 1 @0", "t 1", once]),
             (12, [with_check(b"\x1d\x01".ljust(30, b"\x11"))], ["b 0", "t 0"]),
-            (13, [with_check(b"\x1e\x01".ljust(30, b"\x11"))], ["b 3", "t 0"])):
+            (13, [with_check(b"\x1e\x01".ljust(30, b"\x11"))], ["b 3 @0", "t 0"])):
         script = "".join("b %s\n" % data.hex() for data in blocks) + "t\n"
         assert run(script.encode()) == answers, number
     table = {}                                                                      # 13
     read_all(table, whole_list(0x2004, 1, [(DAB, number) for number in range(127)]))
-    assert read_block(table, more(0x2004, 1, DAB, [500])) == (0, [3]) and len(table[0x2004].open.pairs) == 128
-    assert read_block(table, more(0x2004, 1, DAB, [501])) == (0, [6]) and table[0x2004].open is None
+    assert read_block(table, more(0x2004, 1, DAB, [500])) == (0, 0, [3]) and len(table[0x2004].open.pairs) == 128
+    assert read_block(table, more(0x2004, 1, DAB, [501])) == (0, 0, [6]) and table[0x2004].open is None
     table = {}                                                                      # 14
     read_all(table, [start(0x2001 + place, 1, DAB, [1]) for place in range(32)])
-    assert read_block(table, start(0x2021, 1, DAB, [1])) == (0, [5]) and 0x2021 not in table
+    assert read_block(table, start(0x2021, 1, DAB, [1])) == (0, 0, [5]) and 0x2021 not in table
     assert forget(table, 0x2001) == 0
-    assert read_block(table, start(0x2021, 1, DAB, [1])) == (0, [1]) and 0x2021 in table
+    assert read_block(table, start(0x2021, 1, DAB, [1])) == (0, 0, [1]) and 0x2021 in table
     table = {}                                                                      # 15
     read_all(table, [EXAMPLE] * 2)
     written = bytes.fromhex("01 84 40 01 01 02 00 B1 89 01 01 B1 89 01")
@@ -133,11 +136,11 @@ def decided_points():
     key, full = 0x2004, [(DAB, number) for number in range(128)]
     table = {}                              # repeated pairs do not count towards 128
     read_all(table, whole_list(key, 1, full))
-    assert read_block(table, more(key, 0, DAB, list(range(12)))) == (0, [3]) and table[key].open.pairs == full
+    assert read_block(table, more(key, 0, DAB, list(range(12)))) == (0, 0, [3]) and table[key].open.pairs == full
     assert not table[key].on
-    assert read_block(table, more(key, 1, RDS, [0])) == (0, [6])    # the same number of another kind does
+    assert read_block(table, more(key, 1, RDS, [0])) == (0, 0, [6])    # the same number of another kind does
     assert table[key].on and table[key].open is None and table[key].shown is None
-    assert read_block(table, more(key, 0, RDS, [0])) == (0, [4]) and not table[key].on
+    assert read_block(table, more(key, 0, RDS, [0])) == (0, 0, [4]) and not table[key].on
     assert copy_out(table, key, [0] * 256, bytearray(256)) == 11    # held, not shown
     assert copy_out(table, key | 0x10000, [0] * 256, bytearray(256)) == 7
     assert stored.fetch(stored.store(table)) == table               # held without lists is a good table
@@ -153,43 +156,45 @@ def decided_points():
 
 
 def bits_examine(data):
-    """Outcome and fields of a block once more, over its bits as a text of 0 and 1."""
+    """Outcome, place and fields of a block once more, over its bits as a text of 0 and 1, class after class."""
     if len(data) != 32 or not check_passes(data):
-        return (1 if len(data) != 32 else 2), []
+        return (1 if len(data) != 32 else 2), 0, []
     bits, figs = "".join("{:08b}".format(byte) for byte in data[:30]), []
     while bits and not bits.startswith("11111111"):
         length = int(bits[3:8], 2) * 8
         if length == 0 or length > len(bits) - 8:
-            return 3, []
-        figs.append((bits[:3], bits[8:8 + length]))
+            return 3, 30 - len(bits) // 8, []
+        figs.append((bits[:3], bits[8:8 + length], len(bits) - 8 - length))
         bits = bits[8 + length:]
     fields = []
-    for kind, body in figs:
+    for kind, body, after in figs:              # after: how many bits of the data come after this FIG
         if kind != "000" or body[3:8] != "00110":
             continue
         flags, rest = body[:3], body[8:]
         while rest:
+            place = 30 - (len(rest) + after) // 8
             listed, la, key, rest = rest[:1], rest[1:2], flags[1:] + rest[2:16], rest[16:]
             if len(key) < 16:
-                return 4, []
+                return 4, place, []
             mark, numbers = None, []
             if listed == "1":
                 mark, rest = rest[:8], rest[8:]
                 size = 32 if key[1] == "1" else 24 if key[3] == "1" else 16
                 if len(mark) < 8 or int(mark[4:], 2) * size > len(rest):
-                    return 4, []
+                    return 4, place, []
                 for _ in range(int(mark[4:], 2)):
                     numbers.append(int(rest[:size], 2))
                     rest = rest[size:]
-            fields.append((int(key, 2), flags[0] == "1", la == "1", mark, numbers))
-    for key, _, _, mark, _ in fields:
+            fields.append((place, int(key, 2), flags[0] == "1", la == "1", mark, numbers))
+    for place, key, _, _, mark, _ in fields:
         if key % 4096 == 0:
-            return 5, []
+            return 5, place, []
         if mark and (mark[0] == "1" or mark[3] == "1" or mark[1:3] == "10" or key & 0x4000 and mark[1:3] != "00"):
-            return 5, []
-    if any(mark and not continued and not numbers for _, continued, _, mark, numbers in fields):
-        return 6, []
-    return 0, [(key, cn, on, mark and int(mark, 2), numbers) for key, cn, on, mark, numbers in fields]
+            return 5, place, []
+    for place, _, continued, _, mark, numbers in fields:
+        if mark and not continued and not numbers:
+            return 6, place, []
+    return 0, 0, [(place, key, cn, on, mark and int(mark, 2), numbers) for place, key, cn, on, mark, numbers in fields]
 
 
 def reading_over_bits():
@@ -197,8 +202,8 @@ def reading_over_bits():
     dice = Dice(2)
     keys = random_keys(dice, 10)
     met = set()
-    for _ in range(4000):
-        what = dice.below(4)
+    for _ in range(5000):
+        what = dice.below(5)
         if what == 0:
             data = block(*random_figs(dice, keys))
         elif what == 1:
@@ -207,15 +212,94 @@ def reading_over_bits():
             spoiled = bytearray(block(*random_figs(dice, keys))[:30])
             spoiled[dice.below(12)] ^= 1 << dice.below(8)
             data = with_check(bytes(spoiled))
+        elif what == 3:
+            data = random_planned(dice).block()
         else:
             data = bytes(dice.below(256) for _ in range(30))
             data = with_check(dice.pick([b"\x06\x06", b"\x1d\x06", b"\x05\x86", b"\x1d\x26", b""]) + data)[:30]
             data = with_check(data)
-        outcome, fields = examine(data)
-        assert (outcome, [tuple(field) for field in fields]) == bits_examine(data), data.hex()
+        outcome, place, fields = examine(data)
+        assert (outcome, place, [tuple(field) for field in fields]) == bits_examine(data), data.hex()
+        met.add((outcome, place))
+    every = {(outcome, place) for outcome in PLACES for place in PLACES[outcome]} | {(0, 0)}
+    assert met <= every and len(met) >= 100, (met - every, len(met))
+    return "5000 blocks, %d outcomes with their places" % len(met)
+
+
+def counted_places():
+    """The place of a refusal: blocks counted by hand, through the reader and through a script."""
+    met = set()
+    for text, outcome, place in COUNTED:
+        data = block_of(text)
+        assert examine(data)[:2] == bits_examine(data)[:2] == (outcome, place), text
+        assert read_block({}, data)[:2] == (outcome, place), text
+        answer = run(b"b " + data.hex().encode())
+        assert answer == ["b 0" if outcome == 0 else "b %d @%d" % (outcome, place)], text
         met.add(outcome)
+        if outcome:
+            assert examine(damaged(data)) == (2, 0, []) and examine(data[:31]) == (1, 0, []), text
     assert met == {0, 3, 4, 5, 6}
-    return "4000 blocks"
+    late, value = (block_of(text).hex() for text in ("1A 01" + " 00" * 25 + " 02 06 20", "03 06 20 04 03 06 20 00"))
+    script = "b %s\nb %s\nb %s\nb\nb %s\nx 2\nb %s\nu\nb %s\n" % (late, EXAMPLE.hex(), damaged(EXAMPLE).hex(),
+                                                                 value, late, late)
+    assert run(script.encode()) == ["b 4 @29", "b 0 1", "b 2 @0", "b 1 @0", "b 5 @6", "x", "b 9 @0", "u", "b 4 @29"]
+    return "%d blocks" % len(COUNTED)
+
+
+def made_places():
+    """The place of a refusal: blocks whose faults are known from their making."""
+    dice = Dice(14)
+    met = set()
+    for _ in range(4000):
+        planned = random_planned(dice)
+        outcome, place, _ = planned.answer()
+        assert examine(planned.block())[:2] == (outcome, place), planned.data.hex()
+        met.add((outcome, place))
+    assert len(met) >= 100, len(met)
+    return "4000 blocks, %d outcomes with their places" % len(met)
+
+
+def reports():
+    """The report on a recording, written by hand."""
+    assert report_text(b"") == "blocks 0, refused 0\n" and report_text(EXAMPLE[:31]) == "blocks 0, refused 0\nrest 31\n"
+    assert report_text(EXAMPLE * 2) == "blocks 2, refused 0\n"
+    texts = ("03 06 20 04 00", "02 06 20", "06 06 E0 04 00 20 00", "04 06 E0 04 00", "FF")
+    recording = EXAMPLE + damaged(EXAMPLE) + b"".join(map(block_of, texts)) + b"12345"
+    assert report_text(recording) == ("block 2: 2, check fails\nblock 3: 3 at byte 4, wrong FIG\n"
+                                      "block 4: 4 at byte 2, wrong field\nblock 5: 5 at byte 5, wrong value\n"
+                                      "block 6: 6 at byte 2, empty start\nblocks 7, refused 5\nrest 5\n")
+    starts = [start(0x2001 + place, 1, DAB, [1]) for place in range(34)]
+    recording = starts[:32] + [damaged(starts[32])] + starts[32:] + starts
+    assert report(b"".join(recording)) == ["block 33: 2, check fails", "blocks 69, refused 1", "starts without room 4"]
+    return "every outcome, rest, starts without room"
+
+
+def plain_room(recording):
+    """How many starts find no room: those of all but the first 32 keys that are started."""
+    fields = [field for data in recording for field in examine(data)[2]]
+    keys = [field.key for field in fields if field.mark is not None and not field.continued]
+    first = list(dict.fromkeys(keys))[:32]
+    return sum(key not in first for key in keys)
+
+
+def random_reports():
+    """The report on random recordings against the answers block by block and the keys in their order."""
+    dice = Dice(15)
+    most = 0
+    for keys in (random_keys(dice, count) for count in (1, 5, 32, 33, 45, 90)):
+        recording = [random_block(dice, keys, 15) for _ in range(200)]
+        lines, rest = [], len(keys) % 32
+        for line in report(b"".join(recording) + bytes(rest)):
+            lines.append(re.fullmatch("block ([0-9]+): ([2-6])(?: at byte ([0-9]+))?, [a-zFIG ]+|(.*)", line).groups())
+        refused = [(number, *examine(data)[:2]) for number, data in enumerate(recording, 1) if examine(data)[0]]
+        said = [(int(number), int(outcome), int(place or 0)) for number, outcome, place, other in lines if not other]
+        assert said == refused and len(said) > 10
+        room = plain_room(recording)
+        ends = [("blocks 200, refused %d", len(said)), ("starts without room %d", room), ("rest %d", rest)]
+        assert [line[3] for line in lines[len(said):]] == [form % count for form, count in ends if count]
+        most = max(most, room)
+    assert most > 50, most
+    return "up to %d starts without room" % most
 
 
 def plain_entry(recording, key):
@@ -227,7 +311,7 @@ def plain_entry(recording, key):
     """
     started, history = [], []               # history: fields of the key, and None for a refused block
     for data in recording:
-        outcome, fields = examine(data)
+        outcome, _, fields = examine(data)
         if outcome >= 2:
             history.append(None)
         for field in fields:
@@ -413,9 +497,9 @@ def refusals():
         data = faulty_block(dice, keys, [outcome for outcome in (2, 3, 4, 5, 6) if dice.chance(40)] or [2])
         if dice.chance(20):
             data = data[:dice.below(32)]
-        outcome, notes = read_block(table, data)
+        outcome, place, notes = read_block(table, data)
         met.add(outcome)
-        assert outcome and not notes
+        assert outcome and not notes and (place == 0 if outcome <= 2 else place in PLACES[outcome])
         if outcome >= 2:
             drop_open_lists(before)
         assert table == before
@@ -446,7 +530,7 @@ def bounds():
         sheet_most = max(sheet_most, len(sheet.sheet_of(shown)))
         air_most = max(air_most, 32 * sum(len(air.pieces_of(key, entry.shown)) for key, entry in shown))
     assert (most, air_most, sheet_most) == (128, 131072, 24801)
-    assert len(examine(block(linking_fig(1, 0, 0, *[short(0x2004, 1)] * 14)))[1]) == 14
+    assert len(examine(block(linking_fig(1, 0, 0, *[short(0x2004, 1)] * 14)))[2]) == 14
     return "128, 131072, 24801, 14 notes"
 
 
@@ -461,7 +545,7 @@ def showings(table, recording):
         if isinstance(what, int):
             forget(table, what)
             continue
-        outcome, fields = examine(what)
+        outcome, _, fields = examine(what)
         if outcome >= 2:
             drop_open_lists(table)
         for place, field in enumerate(fields):
@@ -473,7 +557,7 @@ def showings(table, recording):
 
 def started(recording):
     """Distinct keys of the starts in blocks that are taken, skipped ones too."""
-    fields = [field for data in recording if not isinstance(data, int) for field in examine(data)[1]]
+    fields = [field for data in recording if not isinstance(data, int) for field in examine(data)[2]]
     return {field.key for field in fields if field.mark is not None and not field.continued}
 
 
@@ -598,9 +682,9 @@ def any_line():
     return "3000 lines"
 
 
-CHECKS = [block_check, examples, decided_points, reading_over_bits, plain_reader, air_read_back, sheets_back,
-          sheets_accepted, rules_kept, refusals, bounds, better_and_worse, where_it_fails, spoilings,
-          any_stored_form, any_line]
+CHECKS = [block_check, examples, decided_points, reading_over_bits, counted_places, made_places, reports,
+          random_reports, plain_reader, air_read_back, sheets_back, sheets_accepted, rules_kept, refusals, bounds,
+          better_and_worse, where_it_fails, spoilings, any_stored_form, any_line]
 
 
 def main():

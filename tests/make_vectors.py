@@ -13,13 +13,15 @@ from collections import Counter
 sys.dont_write_bytecode = True
 
 import cases
+import places
 import scenes
 from folder import write_files
-from making import Dice, block, block_of, damaged, more, start, whole_list, with_check
+from making import Dice, block, block_of, damaged, linking_fig, long, more, start, whole_list, with_check
 from material import (DAB, DRM, FLAGS, RDS, faulty_block, largest_sheet, long_sheet, most_pieces, random_figs,
                       random_keys, random_pairs, sheet_bytes)
 from scenes import EXAMPLE
 from script import Script
+from second.check import report_text
 from second.columns import csv_text, table_text
 from second.figs import figs_text
 from second.listing import listing, table_of
@@ -31,6 +33,13 @@ READ_REACH = (["b %d" % outcome for outcome in range(7)] + ["f 0", "f 7", "c 0",
 ALL_REACH = (READ_REACH + ["b 9", "f 9", "c 9", "a 0", "a 8", "a 9", "s 0", "s 8", "s 9", "l 0", "l 10", "t 9", "u"]
              + ["?"] + ["x %d done" % way for way in range(1, 17)]
              + ["x %d ?" % way for way in range(1, 17) if way != 2])
+# Every outcome at every place, in the first, second and third FIG, before and after every other that it can meet.
+PLACE_REACH = (["b 0"] + ["b %d @0" % outcome for outcome in (1, 2, 9)]
+               + ["b %d @%d" % (outcome, place) for outcome in places.PLACES for place in places.PLACES[outcome]]
+               + ["%d in FIG %d" % (outcome, number) for outcome in (3, 4, 5, 6) for number in (1, 2, 3)]
+               + ["%d then %d" % (early, late) for early in (4, 5, 6) for late in (3, 4, 5, 6)]
+               + ["%d then %d in one FIG" % (early, late) for early in (5, 6) for late in (4, 5, 6)]
+               + ["5 and 6 in one FIG"])
 
 
 # examples.in: document 01, Examples
@@ -54,22 +63,24 @@ def examples():
     script.block(block_of("03 06 20 04"), 0, [7])
     script.show()
     begin(EXAMPLE)                                              # 4
-    script.block(damaged(EXAMPLE), 2)
+    script.block(damaged(EXAMPLE), 2, place=0)
     script.show()
     script.block(EXAMPLE, 0, [1])
     script.show()
-    for text, outcome in (("", 0),                              # 5
-                          ("00", 3),                            # 6
-                          ("02 06 20", 4),                      # 7
-                          ("03 06 20 00", 5),                   # 8
-                          ("04 06 E0 04 00", 6),                # 9
-                          ("04 26 36 E0 04", 4),                # 10, first half
-                          ("04 26 36 E0 04 00", 3)):            # 10, second half
+    begin(EXAMPLE)                                              # 5
+    script.block(block_of(""), 0, [])
+    script.show()
+    for text, outcome, place in (("00", 3, 0),                  # 6
+                                 ("02 06 20", 4, 2),            # 7
+                                 ("03 06 20 00", 5, 2),         # 8
+                                 ("04 06 E0 04 00", 6, 2),      # 9
+                                 ("04 26 36 E0 04", 4, 4),      # 10, first half
+                                 ("04 26 36 E0 04 00", 3, 5)):  # 10, second half
         begin(EXAMPLE)
-        script.block(block_of(text), outcome, [])
+        script.block(block_of(text), outcome, place=place)
         script.show()
     begin(EXAMPLE)                                              # 11
-    script.block(EXAMPLE[:31], 1)
+    script.block(EXAMPLE[:31], 1, place=0)
     script.show()
     script.block(EXAMPLE, 0, [2])
     script.show()
@@ -77,7 +88,7 @@ def examples():
     script.block(with_check(bytes.fromhex("1D 01").ljust(30, b"\x55")), 0, [])
     script.show()
     begin(EXAMPLE)                                              # 13
-    script.block(with_check(bytes.fromhex("1E 01").ljust(30, b"\x55")), 3)
+    script.block(with_check(bytes.fromhex("1E 01").ljust(30, b"\x55")), 3, place=0)
     script.show()
     ids = [(DAB, 0x44B1 + number) for number in range(127)]
     begin(*whole_list(0x2004, 1, ids))
@@ -137,9 +148,9 @@ def annex():
         for blocks in groups:
             round_of(script, blocks)
     script.empty()                                                          # A.25 is refused and drops open lists
-    script.block(cases.A25, 5)
+    script.block(cases.A25, 5, place=2)
     script.blocks([cases.A17, cases.A17])
-    script.block(cases.A25, 5)
+    script.block(cases.A25, 5, place=2)
     script.show()
     script.block(cases.A17, 0, [1])
     script.show()
@@ -214,6 +225,20 @@ def random_script():
     scenes.spoiled_twice(script)
     scenes.spoiled_again(script, dice, 250)
     scenes.grammar(script)
+    return script
+
+
+# places.in
+
+
+def places_script():
+    """Document 02, R-1: where a refused block broke."""
+    script = Script("ebtxu")
+    places.counted_by_hand(script)
+    places.every_place(script)
+    places.every_order(script)
+    places.nothing_left_over(script)
+    places.random_places(script, Dice(20240404), 1000)
     return script
 
 
@@ -305,6 +330,20 @@ def with_refused(dice, sets):
     return recording
 
 
+def every_refusal():
+    """Starts of 36 keys, four to a block, sent twice; refused blocks of each outcome among them; a rest of five bytes.
+
+    Four keys find no room, so eight starts do not.  A start in a refused block is none.
+    """
+    starts = [long(0x2001 + place, 1, RDS, [0x44B1, 0xC000 + place]) for place in range(36)]
+    sent = [block(linking_fig(0, 0, 0, *starts[first:first + 4])) for first in range(0, 36, 4)]
+    texts = ("21 05 03 06 20 04 00", "05 06 E0 04 00 36", "04 06 E0 04 00 05 06 20 04 20 00", "21 05 04 06 E0 04 00")
+    refused = [block_of(text) for text in texts]
+    without_room = block(linking_fig(0, 0, 0, starts[35]), bytes.fromhex("05 06 20 04 20 00"))
+    once = sent[:2] + refused[:2] + sent[2:5] + refused[2:] + sent[5:]
+    return b"".join([damaged(EXAMPLE)] + once + sent + [without_room, damaged(sent[8])]) + EXAMPLE[:5]
+
+
 def random_recording(dice, count):
     """Blocks of forty keys, one in twenty refused."""
     keys = random_keys(dice, 40)
@@ -329,6 +368,7 @@ def recordings():
         "off": EXAMPLE * 2 + block_of("03 06 20 04"),
         "refused": with_refused(dice, widths + dead),
         "refused-all": damaged(EXAMPLE) + block_of("00") + cases.A25,
+        "refused-each": every_refusal(),
         "widths": twice(widths),
         "dead-links": twice(dead),
         "oe": twice(other_ensembles),
@@ -346,15 +386,24 @@ def reached(name, script, needed):
     assert not missing, (name, missing)
 
 
+def where_it_can(name, script):
+    """Fails where a place is answered at which that fault cannot stand."""
+    possible = {"b %d @%d" % (outcome, place) for outcome in places.PLACES for place in places.PLACES[outcome]}
+    other = {what for what in script.seen if "@" in what} - possible - {"b 1 @0", "b 2 @0", "b 9 @0"}
+    assert not other, (name, other)
+
+
 def all_files():
     """Path under the folder and bytes of every vector file, and what each script met."""
     scripts = {"examples": examples(), "annex": annex(), "read": read_only(), "random": random_script(),
-               "large": large()}
+               "places": places_script(), "large": large()}
     reached("read", scripts["read"], READ_REACH)
     reached("random", scripts["random"], ALL_REACH)
+    reached("places", scripts["places"], PLACE_REACH)
     assert scripts["read"].seen["commands"] >= 1500 and scripts["random"].seen["commands"] >= 3000
     files = {}
     for name, script in scripts.items():
+        where_it_can(name, script)
         files[name + ".in"] = script.input_bytes()
         files[name + ".out"] = script.output_bytes()
     files["random.in"] = files["random.in"][:-1]        # a last line without its LF
@@ -363,6 +412,7 @@ def all_files():
         files["listing/" + name + ".txt"] = "".join(line + "\n" for line in listing(recording)).encode("ascii")
         files["listing/" + name + ".table"] = table_text(table_of(recording)).encode("ascii")
         files["listing/" + name + ".figs"] = figs_text(recording).encode("ascii")
+        files["listing/" + name + ".check"] = report_text(recording).encode("ascii")
         files["listing/" + name + ".csv"] = csv_text(table_of(recording)).encode("ascii")
     return files, {name: script.seen for name, script in scripts.items()}
 
@@ -375,7 +425,8 @@ def main():
     for name, counts in seen.items():
         print("%s: %d commands" % (name, counts["commands"]))
         total.update(counts)
-    print(", ".join("%s: %d" % (what, total[what]) for what in sorted(total)))
+    print(", ".join("%s: %d" % (what, total[what]) for what in sorted(total) if "@" not in what))
+    print("%d outcomes with their places" % sum("@" in what for what in total))
     print("%d files, %d bytes" % (len(files), sum(map(len, files.values()))))
 
 

@@ -122,6 +122,15 @@ EMPTY_STARTS = [bytes.fromhex(text) for text in (       # outcome 6
 
 FAULTS = {4: WRONG_FIELDS, 5: FORBIDDEN, 6: EMPTY_STARTS}
 
+LATER_FIELDS = {bytes.fromhex(text): byte for text, byte in (       # where it is not the FIG's first field
+    ("04 06 20 04 20", 4), ("07 06 E0 04 01 44 B1 20", 7), ("04 06 20 00 04", 4), ("05 06 E0 04 00 36", 5),
+    ("05 06 20 04 20 00", 4), ("06 06 20 04 A0 05 00", 4))}
+
+
+def fault_byte(one):
+    """The byte of one of these FIGs at which the field at fault begins."""
+    return LATER_FIELDS.get(one, 2)
+
 
 def wrong_length(dice, left):
     """The beginning of a FIG that is wrong with `left` bytes left: length 0, or past the data."""

@@ -7,8 +7,8 @@ is itself a test.
 
 from making import (block, block_of, damaged, id_size, linking_fig, long, more, room, short, start, state,
                     whole_list, with_check)
-from material import (BAD_SHEETS, DAB, DRM, FAULTS, FLAGS, GOOD_SHEETS, ONE, RDS, faulty_block, long_sheet, many_sets,
-                      most_pieces, random_figs, random_keys, random_pairs, sheet_bytes)
+from material import (BAD_SHEETS, DAB, DRM, FAULTS, FLAGS, GOOD_SHEETS, ONE, RDS, fault_byte, faulty_block, long_sheet,
+                      many_sets, most_pieces, random_figs, random_keys, random_pairs, sheet_bytes)
 
 EXAMPLE = block_of("08 06 E0 04 22 44 B1 44 B1")      # document 01, example 1
 
@@ -43,7 +43,7 @@ def block_lengths(script, dice):
     for length in range(65):
         data = (EXAMPLE + EXAMPLE)[:length] if dice.chance(50) else bytes(dice.below(256) for _ in range(length))
         if length != 32:
-            script.block(data, 1)
+            script.block(data, 1, place=0)
     script.show()
     script.block(EXAMPLE, 0, [2])
     script.show()
@@ -57,29 +57,32 @@ def refilled(script):
 
 def each_fault(script):
     """Every fault that material.py has, by itself and after a good FIG."""
+    good = linking_fig(0, 0, 0, long(0x2099, 1, DAB, [7]))
     for outcome, figs in sorted(FAULTS.items()):
         for one in figs:
             refilled(script)
-            script.block(block(one), outcome)
+            script.block(block(one), outcome, place=fault_byte(one))
             script.show()
-            script.block(block(linking_fig(0, 0, 0, long(0x2099, 1, DAB, [7])), one), outcome)
+            script.block(block(good, one), outcome, place=len(good) + fault_byte(one))
             script.show()               # the good FIG before the fault must not have worked
 
 
 def wrong_lengths(script):
     """Lengths of FIGs at the edges: outcome 3 or just right."""
-    for text in ("00", "20", "C0", "E0", "1E", "1F", "3E", "FE", "03 06 20 04 00", "03 06 20 04 1A 06",
-                 "03 06 20 04 FE", "1C 01" + " 00" * 27 + " 01", "1C 01" + " 00" * 27 + " 00"):
-        refilled(script)
-        script.block(with_check(bytes.fromhex(text).ljust(30, b"\0")), 3)
-        script.show()
+    for place, texts in ((0, ("00", "20", "C0", "E0", "1E", "1F", "3E", "FE")),
+                         (4, ("03 06 20 04 00", "03 06 20 04 1A 06", "03 06 20 04 FE")),
+                         (29, ("1C 01" + " 00" * 27 + " 01", "1C 01" + " 00" * 27 + " 00"))):
+        for text in texts:
+            refilled(script)
+            script.block(with_check(bytes.fromhex(text).ljust(30, b"\0")), 3, place=place)
+            script.show()
     for text in ("FF", "FF 00", "FF 06 20 00", "1D 01", "FD", "3D 06", "1C 01" + " 00" * 27 + " FF",
                  "03 06 20 04 FF 00 00", "03 06 20 04 E1 06 FF", "01 06 FF", "01 86 01 46 01 26 FF"):
         refilled(script)
         script.block(with_check(bytes.fromhex(text).ljust(30, b"\0")), 0)
         script.show()
     refilled(script)
-    script.block(with_check(bytes.fromhex("1A 01").ljust(27, b"\0") + bytes.fromhex("02 06 20")), 4)
+    script.block(with_check(bytes.fromhex("1A 01").ljust(27, b"\0") + bytes.fromhex("02 06 20")), 4, place=29)
     script.block(with_check(bytes.fromhex("1B 01").ljust(28, b"\0") + bytes.fromhex("01 06")), 0, [])
     script.block(with_check(bytes.fromhex("19 01").ljust(26, b"\0") + bytes.fromhex("03 06 20 04")), 0, [7])
 
@@ -99,13 +102,13 @@ def fault_order(script, dice, rounds):
 
 def one_fig_two_faults(script):
     """Two faults within one FIG or field."""
-    for text, outcome in (
-            ("04 06 20 00 04", 4), ("07 06 E0 04 00 20 00 36", 4), ("05 06 20 00 36 00", 5),
-            ("04 06 E0 04 40", 5), ("04 06 E0 04 80", 5), ("04 06 E0 00 00", 5), ("04 26 E0 04 20", 5),
-            ("06 06 E0 04 00 20 00", 5), ("06 06 20 00 E0 04 00", 5),
-            ("04 06 E0 04 4F", 4), ("07 06 E0 04 00 E0 05 00", 6)):
+    for text, outcome, place in (
+            ("04 06 20 00 04", 4, 4), ("07 06 E0 04 00 20 00 36", 4, 7), ("05 06 20 00 36 00", 5, 2),
+            ("04 06 E0 04 40", 5, 2), ("04 06 E0 04 80", 5, 2), ("04 06 E0 00 00", 5, 2), ("04 26 E0 04 20", 5, 2),
+            ("06 06 E0 04 00 20 00", 5, 5), ("06 06 20 00 E0 04 00", 5, 2),
+            ("04 06 E0 04 4F", 4, 2), ("07 06 E0 04 00 E0 05 00", 6, 2)):
         refilled(script)
-        script.block(block_of(text), outcome)
+        script.block(block_of(text), outcome, place=place)
         script.show()
 
 
@@ -412,7 +415,7 @@ def mixed_table(script):
 def table_commands(script):
     """Every command that takes a table, to meet outcome 9 on a spoiled one."""
     for data in (EXAMPLE, damaged(EXAMPLE), EXAMPLE[:31], b"", block_of("00")):
-        script.block(data, 9)
+        script.block(data, 9, place=0)
     for command in ("f 2004", "f 0", "f FFFFFFFF", "c 2004 256 256", "c 2004 0 0", "c 2001 0 9", "c 9999 0 0",
                     "a 140000", "a 0", "s 32768", "s 0", "t"):
         script.expect(command, 9)

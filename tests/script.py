@@ -47,6 +47,8 @@ class Script:
             self.seen[(letter + " " + outcome).strip()] += 1
         if letter == "b" and outcome == "0":
             self.seen.update("note " + note for note in words[2:])
+        elif letter == "b":
+            self.seen[answer] += 1              # with its place
 
     def empty(self):
         self.do("e")
@@ -54,14 +56,14 @@ class Script:
     def show(self):
         self.do("t")
 
-    def block(self, data, expected=None, notes=None, small=False):
-        """Reads a block; the outcome and the notes may be foretold."""
+    def block(self, data, expected=None, notes=None, small=False, place=None):
+        """Reads a block; the outcome and the notes, or the place of a refusal, may be foretold."""
         digits = data.hex() if small else data.hex().upper()
         answer = self.do(("b " + digits).strip())
         words = answer.split(" ")
         assert expected is None or words[1] == str(expected), (answer, expected, digits)
         assert notes is None or words[2:] == [str(note) for note in notes], (answer, notes, digits)
-        return int(words[1])
+        assert place is None or words[2:] == ["@%d" % place], (answer, place, digits)
 
     def blocks(self, many):
         for data in many:

@@ -8,4 +8,7 @@ beside its section of document 01:
     table.py    Collecting             stored.py   Table rules, stored form
     air.py      Writing for air        sheet.py    The stored sheet
     listing.py  Examples, 16           replay.py, spoil.py   the test scripts
+
+columns.py, figs.py and check.py print what `linkage list --table`, `list
+--csv`, `figs` and `check` print.  Places are those of document 02, R-1.
 """

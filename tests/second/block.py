@@ -1,11 +1,20 @@
 """The block (FIB): its check and the walk over its FIGs.
 
-Document 01, The block.
+Document 01, The block.  Places are counted from 0, the block's first byte.
 """
+
+from collections import namedtuple
 
 BLOCK_SIZE = 32     # 30 bytes of data and the check
 DATA_SIZE = 30
 END_OF_FIGS = 0xFF  # where a FIG would begin
+
+Fig = namedtuple("Fig", "place kind body")      # the place is that of its first byte, the one with type and length
+
+
+def whole_blocks(recording):
+    """The whole blocks of a recording, in order."""
+    return [recording[end - BLOCK_SIZE:end] for end in range(BLOCK_SIZE, len(recording) + 1, BLOCK_SIZE)]
 
 
 def check_of(data):
@@ -26,7 +35,7 @@ def check_passes(block):
 
 
 def figs_of(data):
-    """The FIGs of the thirty data bytes as (type, body), or None where a length is wrong.
+    """The FIGs of the thirty data bytes, and the place of the wrong one that ends them, None where none is wrong.
 
     Wrong is length 0 and a FIG that runs past the data.  The list ends at
     byte FF or exactly at the end of the data.
@@ -37,7 +46,7 @@ def figs_of(data):
         kind, length = data[place] >> 5, data[place] & 31
         body = data[place + 1:place + 1 + length]
         if length == 0 or len(body) < length:
-            return None
-        figs.append((kind, body))
+            return figs, place
+        figs.append(Fig(place, kind, body))
         place += 1 + length
-    return figs
+    return figs, None

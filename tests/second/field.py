@@ -1,6 +1,7 @@
 """The linking field: service linking is FIG type 0, extension 6.
 
-Document 01, The linking field, and outcomes 1 to 6 of Numbered outcomes.
+Document 01, The linking field, and outcomes 1 to 6 of Numbered outcomes;
+document 02, R-1, for the place of a refusal.
 """
 
 from collections import namedtuple
@@ -16,9 +17,10 @@ LINKING = 6                   # the extension
 # Parts of a key.
 OE, PD, HARD, ILS, LSN = 32768, 16384, 8192, 4096, 4095
 
-# continued is C/N; on is LA; mark is the byte with Rfu, qualifier, shorthand
-# and count, None where the list flag is 0; numbers are the identifiers.
-Field = namedtuple("Field", "key continued on mark numbers")
+# place is that of its first byte in the block; continued is C/N; on is LA;
+# mark is the byte with Rfu, qualifier, shorthand and count, None where the
+# list flag is 0; numbers are the identifiers.
+Field = namedtuple("Field", "place key continued on mark numbers")
 
 
 def width(key):
@@ -48,37 +50,42 @@ def pairs_of(field):
     return pairs
 
 
-def is_linking(kind, body):
-    return kind == 0 and body[0] & 31 == LINKING
+def is_linking(fig):
+    return fig.kind == 0 and fig.body[0] & 31 == LINKING
 
 
-def fields_of_fig(body):
-    """The fields of one linking FIG, or None where they do not fill it exactly."""
-    flags = body[0]
-    continued = bool(flags & 0x80)
-    key_high = (flags & 0x60) << 9          # OE and P/D
-    fields = []
-    place = 1
-    while place < len(body):
-        if place + 2 > len(body):
+def field_at(fig, begin):
+    """The field that begins at this byte of a linking FIG's body, and where it ends; None where it does not fit."""
+    body, flags = fig.body, fig.body[0]
+    end = begin + 2
+    if end > len(body):
+        return None
+    head = body[begin] << 8 | body[begin + 1]
+    key = (flags & 0x60) << 9 | head & (HARD | ILS | LSN)       # OE and P/D are the FIG's
+    mark, numbers = None, []
+    if head & 0x8000:                                           # list flag
+        first = end + 1
+        if first > len(body):
             return None
-        head = body[place] << 8 | body[place + 1]
-        key = key_high | head & (HARD | ILS | LSN)
-        place += 2
-        mark, numbers = None, []
-        if head & 0x8000:                   # list flag
-            if place + 1 > len(body):
-                return None
-            mark = body[place]
-            place += 1
-            size = width(key) // 8
-            end = place + (mark & 15) * size
-            if end > len(body):
-                return None
-            numbers = [int.from_bytes(body[p:p + size], "big") for p in range(place, end, size)]
-            place = end
-        fields.append(Field(key, continued, bool(head & 0x4000), mark, numbers))
-    return fields
+        mark, size = body[end], width(key) // 8
+        end = first + (mark & 15) * size
+        if end > len(body):
+            return None
+        numbers = [int.from_bytes(body[p:p + size], "big") for p in range(first, end, size)]
+    return Field(fig.place + 1 + begin, key, bool(flags & 0x80), bool(head & 0x4000), mark, numbers), end
+
+
+def fields_of_fig(fig):
+    """The fields of a linking FIG, and the place of the one that does not fit, None where they fill it exactly."""
+    fields = []
+    begin = 1
+    while begin < len(fig.body):
+        found = field_at(fig, begin)
+        if found is None:
+            return fields, fig.place + 1 + begin
+        field, begin = found
+        fields.append(field)
+    return fields, None
 
 
 def is_forbidden(field):
@@ -95,27 +102,32 @@ def is_empty_start(field):
     return is_start(field) and not field.numbers
 
 
-def examine(block):
-    """(0, fields in order) for a block that may be taken, else (outcome 1 to 6, []).
+def walk(data):
+    """All fields of the thirty data bytes, and all faults as (outcome 3 to 6, place), in any order."""
+    figs, wrong = fib.figs_of(data)
+    faults = [] if wrong is None else [(3, wrong)]
+    fields = []
+    for fig in filter(is_linking, figs):
+        more, misfit = fields_of_fig(fig)
+        fields += more
+        faults += [] if misfit is None else [(4, misfit)]
+    faults += [(5, field.place) for field in fields if is_forbidden(field)]
+    faults += [(6, field.place) for field in fields if is_empty_start(field)]
+    return fields, faults
 
-    Each outcome is looked for over the whole block before the next.
+
+def examine(block):
+    """(0, 0, fields in order) for a block that may be taken, else (outcome 1 to 6, place, []).
+
+    Each outcome is looked for over the whole block before the next, and the
+    first fault of that outcome gives the place: the least fault of all.
     """
     if len(block) != fib.BLOCK_SIZE:
-        return 1, []
+        return 1, 0, []
     if not fib.check_passes(block):
-        return 2, []
-    figs = fib.figs_of(block[:fib.DATA_SIZE])
-    if figs is None:
-        return 3, []
-    fields = []
-    for kind, body in figs:
-        if is_linking(kind, body):
-            more = fields_of_fig(body)
-            if more is None:
-                return 4, []
-            fields += more
-    if any(is_forbidden(field) for field in fields):
-        return 5, []
-    if any(is_empty_start(field) for field in fields):
-        return 6, []
-    return 0, fields
+        return 2, 0, []
+    fields, faults = walk(block[:fib.DATA_SIZE])
+    if faults:
+        outcome, place = min(faults)
+        return outcome, place, []
+    return 0, 0, fields

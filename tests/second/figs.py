@@ -3,7 +3,7 @@
 Document 01, The block.
 """
 
-from second.block import BLOCK_SIZE, DATA_SIZE, END_OF_FIGS, check_passes
+from second.block import BLOCK_SIZE, DATA_SIZE, END_OF_FIGS, check_passes, whole_blocks
 
 
 def fig_lines(data):
@@ -20,8 +20,7 @@ def fig_lines(data):
 
 def figs_text(recording):
     lines = []
-    for number in range(len(recording) // BLOCK_SIZE):
-        block = recording[number * BLOCK_SIZE:(number + 1) * BLOCK_SIZE]
+    for number, block in enumerate(whole_blocks(recording)):
         lines.append("block %d" % number + ("" if check_passes(block) else " check fails"))
         lines += fig_lines(block[:DATA_SIZE])
     rest = len(recording) % BLOCK_SIZE

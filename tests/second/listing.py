@@ -11,7 +11,7 @@ if __name__ == "__main__":
     sys.path.insert(0, os.path.dirname(os.path.dirname(os.path.abspath(__file__))))
 
 from second import field as linking
-from second.block import BLOCK_SIZE
+from second.block import BLOCK_SIZE, whole_blocks
 from second.table import read_block, shown_sets
 
 LETTER = {linking.DAB: "D", linking.RDS: "R", linking.DRM: "M"}
@@ -47,8 +47,8 @@ def set_line(key, entry):
 def table_of(recording):
     """The table that the whole blocks of a recording leave."""
     table = {}
-    for place in range(0, len(recording) // BLOCK_SIZE * BLOCK_SIZE, BLOCK_SIZE):
-        read_block(table, recording[place:place + BLOCK_SIZE])
+    for block in whole_blocks(recording):
+        read_block(table, block)
     return table
 
 

@@ -37,6 +37,11 @@ def list_words(key, ids):
     return ["-"] if ids is None else [str(ids.named)] + id_texts(key, ids.pairs)
 
 
+def block_words(outcome, place=0, notes=()):
+    """O, then after 0 the notes' numbers, after any other outcome the place."""
+    return [str(outcome)] + (["@%d" % place] if outcome else [str(note) for note in notes])
+
+
 def kept_word(rest, filling):
     """Whether every place that must stay unchanged still holds the filling."""
     return "kept" if all(place == filling for place in rest) else "changed"
@@ -71,10 +76,10 @@ class Replay:
             return None
         table = stored.fetch(self.stored)
         if table is None:
-            return ["b 9"]
-        outcome, notes = tables.read_block(table, data)
+            return [" ".join(["b"] + block_words(9))]
+        outcome, place, notes = tables.read_block(table, data)
         self.stored = stored.store(table)
-        return [" ".join(["b", str(outcome)] + [str(note) for note in notes])]
+        return [" ".join(["b"] + block_words(outcome, place, notes))]
 
     def forget(self, key):
         table = stored.fetch(self.stored)

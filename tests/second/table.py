@@ -102,11 +102,11 @@ def drop_open_lists(table):
 
 
 def read_block(table, block):
-    """Reads one block into the table; answers (outcome, notes)."""
-    outcome, fields = linking.examine(block)
+    """Reads one block into the table; answers (outcome, place, notes)."""
+    outcome, place, fields = linking.examine(block)
     if outcome >= 2:
         drop_open_lists(table)
-    return outcome, [collect(table, field) for field in fields]
+    return outcome, place, [collect(table, field) for field in fields]
 
 
 def forget(table, key):

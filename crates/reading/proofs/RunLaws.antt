@@ -1,11 +1,11 @@
 -- The loop that reads blocks: what it keeps (`Going`), and one turn of it. In order: notes as they are stored; a field more;
 -- a block more, taken or refused; the end.
 use Prim.Native.Nat.{ℕ, zero, suc, _+_, _-_, _/_, _%_, _<_, _≤_}
-use native.Mathlib.Nat.{le-of-suc-le-suc, not-suc-le-zero}
+use native.Mathlib.Nat.{le-of-suc-le-suc, not-suc-le-zero, zero-add, add-zero}
 use native.Mathlib.Numerals.{add-one}
 use native.Mathlib.Omega.{arith}
 use mathlib.Core.Path.{_≡_, refl, sym, ap, ap₂, _∙_, subst}
-use mathlib.Core.Bool.{true}
+use mathlib.Core.Bool.{Bool, true, false}
 use mathlib.Core.List.{List, [], _∷_, _++_, map, append-nil}
 use lib.ListN.{length, getD, take, drop, length-append, length-take}
 use lib.Seq.{drop-cons, drop-drop, append-snoc, drop-length, getD-take, getD-drop, take-all}
@@ -20,7 +20,8 @@ use Rattle.rules.specs.declared.Note.the-variants.{Opened}
 use Rattle.rules.specs.Field.{Field as FieldOf}
 use Rattle.rules.specs.Family.{step, steps, dropOpen}
 use Rattle.rules.specs.Collecting.{linkage, Entries, Content, withSets, said, setsMeet, meets}
-use Rattle.rules.specs.Outcomes.{taken, refused, verdict, Answer, readBlock, readBlocks, readRecording, leftOver}
+use Rattle.rules.specs.Block.{bit}
+use Rattle.rules.specs.Outcomes.{taken, refused, verdict, Answer, readBlock, readBlocks, isFull, withoutRoom, roomlessBlocks, readRecording, leftOver, roomless}
 use Rattle.rules.proofs.Basics.{Every, cases-bool}
 use Rattle.rules.proofs.Taken.{GoodField, taken-good}
 use Rattle.rules.proofs.TableRules.{Meets, table-meets}
@@ -34,9 +35,10 @@ use Rattle.block.specs.declared.Spots.{Spots}
 use Rattle.block.specs.Judged.{noSpots, noSpot}
 use Rattle.block.proofs.Meaning.{SpotIs, noField, SpotsAre}
 use Rattle.reading.specs.declared.Notes.{Notes}
-use Rattle.reading.specs.declared.Answer.{Answer as Run}
+use Rattle.reading.specs.declared.Reply.{Reply}
+use Rattle.reading.specs.declared.Run.{Run}
 use Rattle.reading.specs.Steps.{storeNotes, notedAs, notedAt, noNotes}
-use Rattle.reading.specs.Runs.{begun, runBlocks, runAs, Runs, recordedAs}
+use Rattle.reading.specs.Runs.{noReply, replyTo, replyWith, Ran, begun, counted, runBlocks, runAs, ranAs, Runs, recordedAs}
 
 -- ---- notes as they are stored
 
@@ -52,13 +54,21 @@ note-more ns n h =
 
 -- ---- what the loop keeps
 
--- the answer to the present block, with these notes so far and these fields still to come
-unfoldable pub resumed : Outcome → List Note → Content → List FieldOf → Answer
-resumed o ns c gs = record { outcome = o; notes = ns ++ steps linkage (c .sets) (map said gs) .1; left = withSets c (steps linkage (c .sets) (map said gs) .0) }
+-- what is said of the present block, with these notes so far and no field to come, or with these fields still to come
+abbrev spoken : Reply → List Note → Content → Ran
+spoken r ns c = record { answer = record { outcome = r .outcome; place = r .place; notes = ns; left = c }; full = r .full }
+
+unfoldable pub resumed : Reply → List Note → Content → List FieldOf → Ran
+resumed r ns c gs =
+    let s = steps linkage (c .sets) (map said gs) in
+    record {
+      answer = record { outcome = r .outcome; place = r .place; notes = ns ++ s .1; left = withSets c (s .0) };
+      full = r .full + withoutRoom (s .1);
+    }
 
 -- the table stores a content that meets the rules; the spots place the fields of the present block; the notes are those of
--- the fields passed; what is left to do makes the whole
-pub record Going (bytes : List ℕ) (t₀ : Table) (t : Sets) (notes : Notes) (outcome : Outcome) (spots : Spots) (from at i : ℕ) : Type 0 where
+-- the fields passed, and not more starts found no room than bytes are passed; what is left to do makes the whole
+pub record Going (bytes : List ℕ) (t₀ : Table) (t : Sets) (reply : Reply) (spots : Spots) (from at i : ℕ) : Type 0 where
   pub first : Content
   pub first-meets : meets first ≡ true
   pub first-stored : t₀ ≡ storeTable first
@@ -70,23 +80,25 @@ pub record Going (bytes : List ℕ) (t₀ : Table) (t : Sets) (notes : Notes) (o
   pub good : Every GoodField fields
   pub inside : 0 < length fields → from + 32 ≤ length bytes
   pub noted : List Note
-  pub notes-are : notes ≡ storeNotes noted
+  pub notes-are : reply .notes ≡ storeNotes noted
   pub as-many : length noted ≡ i
   pub within : i ≤ length fields
   pub at-most : at ≤ length bytes
-  pub answer : runBlocks (length bytes / 32) (begun first) bytes ≡ runBlocks ((length bytes - at) / 32) (resumed outcome noted now' (drop i fields)) (drop at bytes)
+  pub room : reply .full + (length fields - i) ≤ at
+  pub answer : runBlocks (length bytes / 32) (begun first) bytes ≡ runBlocks ((length bytes - at) / 32) (resumed reply noted now' (drop i fields)) (drop at bytes)
 
 placed-none : (fib : List ℕ) (spots : Spots) → spots .count ≡ 0 → SpotsAre fib spots []
 placed-none fib spots z = record { count = z; few = omega arith; each = λ i h. absurd (not-suc-le-zero h) }
 
-resumed-none : (o : Outcome) (ns : List Note) (c : Content) → resumed o ns c [] ≡ record { outcome = o; notes = ns; left = c }
-unfolding resumed steps
-resumed-none o ns c = ap (λ (m : List Note). record { outcome = o; notes = m; left = c }) (append-nil ns)
+resumed-none : (r : Reply) (ns : List Note) (c : Content) → resumed r ns c [] ≡ spoken r ns c
+unfolding resumed steps withoutRoom
+resumed-none r ns c =
+    ap₂ (λ (m : List Note) (k : ℕ). record { answer = record { outcome = r .outcome; place = r .place; notes = m; left = c }; full = k }) (append-nil ns) (add-zero (r .full))
 
-pub going-first : (bytes : List ℕ) (t : Table) (notes : Notes) (spots : Spots) (c : Content) → meets c ≡ true → t ≡ storeTable c → notes ≡ noNotes → spots ≡ noSpots
-    → Going bytes t (t .sets) notes Done spots 0 0 0
-unfolding noSpots begun
-going-first bytes t notes spots c m e n s =
+pub going-first : (bytes : List ℕ) (t : Table) (reply : Reply) (spots : Spots) (c : Content) → meets c ≡ true → t ≡ storeTable c → reply ≡ noReply → spots ≡ noSpots
+    → Going bytes t (t .sets) reply spots 0 0 0
+unfolding noSpots noReply begun
+going-first bytes t reply spots c m e n s =
     record {
       first = c;
       first-meets = m;
@@ -99,11 +111,12 @@ going-first bytes t notes spots c m e n s =
       good = tt;
       inside = λ h. absurd (not-suc-le-zero h);
       noted = [];
-      notes-are = n ∙ no-notes;
+      notes-are = ap (λ (x : Reply). x .notes) n ∙ no-notes;
       as-many = refl;
       within = omega arith;
       at-most = omega arith;
-      answer = ap₂ (λ (n : ℕ) (a : Answer). runBlocks n a bytes) (ap (λ (n : ℕ). n / 32) whole) (sym (resumed-none Done [] c));
+      room = omega (arith, ap (λ (x : Reply). x .full) n);
+      answer = ap₂ (λ (k : ℕ) (a : Ran). runBlocks k a bytes) (ap (λ (k : ℕ). k / 32) whole) (sym (ap (λ (x : Reply). resumed x [] c []) n ∙ resumed-none noReply [] c));
     }
   where
     whole : length bytes ≡ length bytes - 0
@@ -111,17 +124,30 @@ going-first bytes t notes spots c m e n s =
 
 -- ---- a field more
 
+bit-most : (b : Bool) → bit b ≤ 1
+unfolding bit
+bit-most true = omega arith
+bit-most false = omega arith
+
 every-get : {A : Type 0} (P : A → Type 0) (d : A) (xs : List A) (i : ℕ) → Every P xs → i < length xs → P (getD xs i d)
 every-get P d [] i e h = absurd (not-suc-le-zero h)
 every-get P d (x ∷ xs) zero e h = e .0
 every-get P d (x ∷ xs) (suc i) e h = every-get P d xs i (e .1) (le-of-suc-le-suc h)
 
-resumed-step : (o : Outcome) (ns : List Note) (c : Content) (c' : Entries) (n : Note) (g : FieldOf) (gs : List FieldOf) → step linkage (c .sets) (said g) ≡ (c', n)
-    → resumed o ns c (g ∷ gs) ≡ resumed o (ns ++ n ∷ []) (withSets c c') gs
-unfolding resumed steps
-resumed-step o ns c c' n g gs e =
-    ap (λ (r : Entries × Note). record { outcome = o; notes = ns ++ r .1 ∷ steps linkage (r .0) (map said gs) .1; left = withSets c (steps linkage (r .0) (map said gs) .0) }) e
-    ∙ ap (λ (m : List Note). record { outcome = o; notes = m; left = withSets c (steps linkage c' (map said gs) .0) }) (sym (append-snoc ns n (steps linkage c' (map said gs) .1)))
+resumed-step : (r : Reply) (ns : List Note) (i : ℕ) (c : Content) (c' : Entries) (n : Note) (g : FieldOf) (gs : List FieldOf)
+    → step linkage (c .sets) (said g) ≡ (c', n) → resumed r ns c (g ∷ gs) ≡ resumed (replyWith r i n) (ns ++ n ∷ []) (withSets c c') gs
+unfolding resumed replyWith steps withoutRoom
+resumed-step r ns i c c' n g gs e =
+    let s = steps linkage c' (map said gs) in
+    let room : r .full + (bit (isFull n) + withoutRoom (s .1)) ≡ r .full + bit (isFull n) + withoutRoom (s .1) = omega arith in
+    ap (λ (x : Entries × Note).
+    let y = steps linkage (x .0) (map said gs) in
+    record {
+      answer = record { outcome = r .outcome; place = r .place; notes = ns ++ x .1 ∷ y .1; left = withSets c (y .0) };
+      full = r .full + (bit (isFull (x .1)) + withoutRoom (y .1));
+    }) e
+    ∙ ap₂ (λ (m : List Note) (k : ℕ). record { answer = record { outcome = r .outcome; place = r .place; notes = m; left = withSets c (s .0) }; full = k })
+    (sym (append-snoc ns n (s .1))) room
 
 step-meets : (c c' : Entries) (n : Note) (g : FieldOf) → GoodField g → setsMeet c ≡ true → step linkage c (said g) ≡ (c', n) → setsMeet c' ≡ true
 unfolding steps
@@ -135,7 +161,7 @@ part-bytes n at bytes b j =
     (λ h. rw (getD-take n (drop at bytes) j 0 (ltb-true j n h), getD-drop at bytes j 0) (b (at + j)))
     (λ h. rw (List·getD-eq-default (take n (drop at bytes)) 0 {n = j} (rw (length-take n (drop at bytes)) (omega (arith, ltb-false j n h)))) (omega arith))
 
-module _ (bytes : List ℕ) (t₀ : Table) (t : Sets) (notes : Notes) (o : Outcome) (spots : Spots) (from at i : ℕ) (G : Going bytes t₀ t notes o spots from at i) where
+module _ (bytes : List ℕ) (t₀ : Table) (t : Sets) (reply : Reply) (spots : Spots) (from at i : ℕ) (G : Going bytes t₀ t reply spots from at i) where
   -- the present field
   pub field-now : FieldOf
   field-now = getD (G .fields) i noField
@@ -154,10 +180,14 @@ module _ (bytes : List ℕ) (t₀ : Table) (t : Sets) (notes : Notes) (o : Outco
   pub few-fields : i < spots .count → i < 14
   few-fields h = omega (arith, G .placed .few, more-fields h)
 
-  pub going-next : i < spots .count → (t' : Sets) (notes' : Notes) (n : Note) (c' : Entries) → step linkage (G .now' .sets) (said field-now) ≡ (c', n)
-      → t' ≡ storeSets c' → notes' ≡ notedAt notes i n → Going bytes t₀ t' notes' o spots from at (i + 1)
-  unfolding field-now
-  going-next h t' notes' n c' e s q =
+  -- what counts one more start cannot overflow
+  pub few-full : i < spots .count → reply .full < length bytes
+  few-full h = omega (arith, G .room, G .at-most, more-fields h)
+
+  pub going-next : i < spots .count → (t' : Sets) (reply' : Reply) (n : Note) (c' : Entries) → step linkage (G .now' .sets) (said field-now) ≡ (c', n)
+      → t' ≡ storeSets c' → reply' ≡ replyWith reply i n → Going bytes t₀ t' reply' spots from at (i + 1)
+  unfolding field-now replyWith
+  going-next h t' reply' n c' e s q =
       record {
         first = G .first;
         first-meets = G .first-meets;
@@ -170,16 +200,17 @@ module _ (bytes : List ℕ) (t₀ : Table) (t : Sets) (notes : Notes) (o : Outco
         good = G .good;
         inside = G .inside;
         noted = G .noted ++ n ∷ [];
-        notes-are = q ∙ ap₂ (λ (m : Notes) (j : ℕ). notedAt m j n) (G .notes-are) (sym (G .as-many)) ∙ note-more (G .noted) n (rw (G .as-many) (few-fields h));
+        notes-are = ap (λ (x : Reply). x .notes) q ∙ ap₂ (λ (m : Notes) (j : ℕ). notedAt m j n) (G .notes-are) (sym (G .as-many)) ∙ note-more (G .noted) n (rw (G .as-many) (few-fields h));
         as-many = length-append (G .noted) (n ∷ []) ∙ omega (arith, G .as-many);
         within = omega (arith, more-fields h);
         at-most = G .at-most;
+        room = omega (arith, G .room, more-fields h, ap (λ (x : Reply). x .full) q, bit-most (isFull n));
         answer =
             G .answer
-            ∙ ap (λ (a : Answer). runBlocks ((length bytes - at) / 32) a (drop at bytes))
-            (ap (resumed o (G .noted) (G .now')) (drop-cons (G .fields) i noField (more-fields h))
-            ∙ resumed-step o (G .noted) (G .now') c' n (getD (G .fields) i noField) (drop (suc i) (G .fields)) e
-            ∙ ap (λ (k : ℕ). resumed o (G .noted ++ n ∷ []) (withSets (G .now') c') (drop k (G .fields))) (sym (add-one i)));
+            ∙ ap (λ (a : Ran). runBlocks ((length bytes - at) / 32) a (drop at bytes))
+            (ap (resumed reply (G .noted) (G .now')) (drop-cons (G .fields) i noField (more-fields h))
+            ∙ resumed-step reply (G .noted) i (G .now') c' n (getD (G .fields) i noField) (drop (suc i) (G .fields)) e
+            ∙ ap₂ (λ (x : Reply) (k : ℕ). resumed x (G .noted ++ n ∷ []) (withSets (G .now') c') (drop k (G .fields))) (sym q) (sym (add-one i)));
       }
 
   -- ---- a block more
@@ -190,24 +221,28 @@ module _ (bytes : List ℕ) (t₀ : Table) (t : Sets) (notes : Notes) (o : Outco
       ap (λ (k : ℕ). drop k (G .fields)) e ∙ drop-length (G .fields)
 
   answer-now : spots .count ≤ i
-      → runBlocks (length bytes / 32) (begun (G .first)) bytes ≡ runBlocks ((length bytes - at) / 32) (record { outcome = o; notes = G .noted; left = G .now' }) (drop at bytes)
+      → runBlocks (length bytes / 32) (begun (G .first)) bytes ≡ runBlocks ((length bytes - at) / 32) (spoken reply (G .noted) (G .now')) (drop at bytes)
   answer-now h =
-      G .answer ∙ ap (λ (a : Answer). runBlocks ((length bytes - at) / 32) a (drop at bytes)) (ap (resumed o (G .noted) (G .now')) (no-fields h) ∙ resumed-none o (G .noted) (G .now'))
+      G .answer ∙ ap (λ (a : Ran). runBlocks ((length bytes - at) / 32) a (drop at bytes)) (ap (resumed reply (G .noted) (G .now')) (no-fields h) ∙ resumed-none reply (G .noted) (G .now'))
 
-  answer-block : spots .count ≤ i → 32 ≤ length bytes - at
-      → runBlocks (length bytes / 32) (begun (G .first)) bytes ≡ runBlocks ((length bytes - (at + 32)) / 32) (readBlock (G .now') (take 32 (drop at bytes))) (drop (at + 32) bytes)
+  all-passed : spots .count ≤ i → reply .full ≤ at
+  all-passed h = omega (arith, G .room)
+
+  -- the next block is answered so
+  answer-block : spots .count ≤ i → 32 ≤ length bytes - at → (a : Answer) → readBlock (G .now') (take 32 (drop at bytes)) ≡ a
+      → runBlocks (length bytes / 32) (begun (G .first)) bytes ≡ runBlocks ((length bytes - (at + 32)) / 32) (counted (reply .full) a) (drop (at + 32) bytes)
   unfolding runBlocks
-  answer-block h l =
+  answer-block h l a q =
       let e : (length bytes - at) / 32 ≡ suc ((length bytes - (at + 32)) / 32) = omega arith in
       answer-now h
-      ∙ ap (λ (n : ℕ). runBlocks n (record { outcome = o; notes = G .noted; left = G .now' }) (drop at bytes)) e
-      ∙ ap (λ (r : List ℕ). runBlocks ((length bytes - (at + 32)) / 32) (readBlock (G .now') (take 32 (drop at bytes))) r) (drop-drop 32 at bytes)
+      ∙ ap (λ (n : ℕ). runBlocks n (spoken reply (G .noted) (G .now')) (drop at bytes)) e
+      ∙ ap₂ (λ (x : Answer) (r : List ℕ). runBlocks ((length bytes - (at + 32)) / 32) (counted (reply .full) x) r) q (drop-drop 32 at bytes)
 
-  pub going-taken : spots .count ≤ i → 32 ≤ length bytes - at → ((j : ℕ) → getD bytes j 0 < 256) → (fs : List FieldOf) (spots' : Spots) (notes' : Notes) (o' : Outcome)
-      → verdict (take 32 (drop at bytes)) ≡ taken fs → SpotsAre (take 32 (drop at bytes)) spots' fs → notes' ≡ noNotes → o' ≡ Done
-      → Going bytes t₀ t notes' o' spots' at (at + 32) 0
-  unfolding resumed
-  going-taken h l b fs spots' notes' o' v p n d =
+  pub going-taken : spots .count ≤ i → 32 ≤ length bytes - at → ((j : ℕ) → getD bytes j 0 < 256) → (fs : List FieldOf) (spots' : Spots) (reply' : Reply)
+      → verdict (take 32 (drop at bytes)) ≡ taken fs → SpotsAre (take 32 (drop at bytes)) spots' fs → reply' ≡ replyTo reply Done 0
+      → Going bytes t₀ t reply' spots' at (at + 32) 0
+  unfolding resumed replyTo
+  going-taken h l b fs spots' reply' v p n =
       record {
         first = G .first;
         first-meets = G .first-meets;
@@ -220,26 +255,27 @@ module _ (bytes : List ℕ) (t₀ : Table) (t : Sets) (notes : Notes) (o : Outco
         good = taken-good (take 32 (drop at bytes)) fs (bytes-list (take 32 (drop at bytes)) (part-bytes 32 at bytes b)) v;
         inside = λ _. omega arith;
         noted = [];
-        notes-are = n ∙ no-notes;
+        notes-are = ap (λ (x : Reply). x .notes) n ∙ no-notes;
         as-many = refl;
         within = omega arith;
         at-most = omega arith;
+        room = omega (arith, all-passed h, p .few, ap (λ (x : Reply). x .full) n);
         answer =
-            answer-block h l
-            ∙ ap (λ (a : Answer). runBlocks ((length bytes - (at + 32)) / 32) a (drop (at + 32) bytes))
-            (answer-taken (G .now') (take 32 (drop at bytes)) fs v
-            ∙ ap (λ (x : Outcome). record { outcome = x; notes = steps linkage (G .now' .sets) (map said fs) .1; left = withSets (G .now') (steps linkage (G .now' .sets) (map said fs) .0) }) (sym d));
+            answer-block h l _ (answer-taken (G .now') (take 32 (drop at bytes)) fs v)
+            ∙ ap (λ (x : Reply). runBlocks ((length bytes - (at + 32)) / 32) (resumed x [] (G .now') fs) (drop (at + 32) bytes)) (sym n);
       }
 
-  pub going-refused : spots .count ≤ i → 32 ≤ length bytes - at → (t' : Sets) (spots' : Spots) (notes' : Notes) (o' p : Outcome)
-      → verdict (take 32 (drop at bytes)) ≡ refused p → o' ≡ p → spots' .count ≡ 0 → notes' ≡ noNotes → t' ≡ storeSets (dropOpen linkage (G .now' .sets))
-      → Going bytes t₀ t' notes' o' spots' at (at + 32) 0
-  going-refused h l t' spots' notes' o' p v d z n s =
+  pub going-refused : spots .count ≤ i → 32 ≤ length bytes - at → (t' : Sets) (spots' : Spots) (reply' : Reply) (o : Outcome) (p : ℕ)
+      → verdict (take 32 (drop at bytes)) ≡ refused o p → reply' ≡ replyTo reply o p → spots' .count ≡ 0 → t' ≡ storeSets (dropOpen linkage (G .now' .sets))
+      → Going bytes t₀ t' reply' spots' at (at + 32) 0
+  unfolding replyTo withoutRoom
+  going-refused h l t' spots' reply' o p v n z s =
+      let left = withSets (G .now') (dropOpen linkage (G .now' .sets)) in
       record {
         first = G .first;
         first-meets = G .first-meets;
         first-stored = G .first-stored;
-        now' = withSets (G .now') (dropOpen linkage (G .now' .sets));
+        now' = left;
         now-meets = table-meets _ .1 (meets-drop-open (G .now' .sets) (table-meets _ .0 (G .now-meets)));
         stored = s;
         fields = [];
@@ -247,53 +283,72 @@ module _ (bytes : List ℕ) (t₀ : Table) (t : Sets) (notes : Notes) (o : Outco
         good = tt;
         inside = λ q. absurd (not-suc-le-zero q);
         noted = [];
-        notes-are = n ∙ no-notes;
+        notes-are = ap (λ (x : Reply). x .notes) n ∙ no-notes;
         as-many = refl;
         within = omega arith;
         at-most = omega arith;
+        room = omega (arith, all-passed h, ap (λ (x : Reply). x .full) n);
         answer =
-            answer-block h l
-            ∙ ap (λ (a : Answer). runBlocks ((length bytes - (at + 32)) / 32) a (drop (at + 32) bytes))
-            (answer-refused (G .now') (take 32 (drop at bytes)) p v
-            ∙ ap (λ (x : Outcome). record { outcome = x; notes = []; left = withSets (G .now') (dropOpen linkage (G .now' .sets)) }) (sym d)
-            ∙ sym (resumed-none o' [] (withSets (G .now') (dropOpen linkage (G .now' .sets)))));
+            answer-block h l _ (answer-refused (G .now') (take 32 (drop at bytes)) o p v)
+            ∙ ap (λ (a : Ran). runBlocks ((length bytes - (at + 32)) / 32) a (drop (at + 32) bytes))
+            (ap (λ (k : ℕ). record { answer = record { outcome = o; place = p; notes = []; left = left }; full = k }) (add-zero (reply .full))
+            ∙ ap (λ (x : Reply). spoken x [] left) (sym n) ∙ sym (resumed-none reply' [] left));
       }
 
   -- ---- the end
 
-  pub going-end : spots .count ≤ i → length bytes - at < 32 → (u : Table) → u ≡ tableOf t → Runs t₀ bytes (record { outcome = o; notes = notes; table = u })
-  unfolding Runs runAs runBlocks
+  pub going-end : spots .count ≤ i → length bytes - at < 32 → (u : Table) → u ≡ tableOf t → Runs t₀ bytes (record { reply = reply; table = u })
+  unfolding Runs ranAs runBlocks
   going-end h l u q =
       let e : (length bytes - at) / 32 ≡ 0 = omega arith in
-      let whole = answer-now h ∙ ap (λ (n : ℕ). runBlocks n (record { outcome = o; notes = G .noted; left = G .now' }) (drop at bytes)) e in (
+      let whole = answer-now h ∙ ap (λ (n : ℕ). runBlocks n (spoken reply (G .noted) (G .now')) (drop at bytes)) e in (
         G .first,
         G .first-meets,
         G .first-stored,
-        (λ j. record { outcome = o; notes = G .notes-are j; table = (q ∙ ap tableOf (G .stored)) j }) ∙ ap runAs (sym whole),
+        (λ j. record { reply = record { outcome = reply .outcome; place = reply .place; full = reply .full; notes = G .notes-are j }; table = (q ∙ ap tableOf (G .stored)) j })
+        ∙ ap ranAs (sym whole),
       )
 
 -- ---- one block, and a whole recording
 
-pub run-left : (n : ℕ) (a : Answer) (bytes : List ℕ) → runBlocks n a bytes .left ≡ readBlocks n (a .left) bytes
+pub run-left : (n : ℕ) (a : Ran) (bytes : List ℕ) → runBlocks n a bytes .answer .left ≡ readBlocks n (a .answer .left) bytes
 unfolding runBlocks readBlocks
 run-left zero a bytes = refl
-run-left (suc n) a bytes = run-left n (readBlock (a .left) (take 32 bytes)) (drop 32 bytes)
+run-left (suc n) a bytes = run-left n (counted (a .full) (readBlock (a .answer .left) (take 32 bytes))) (drop 32 bytes)
 
-pub run-one : (c : Content) (fib : List ℕ) → length fib ≡ 32 → runBlocks (length fib / 32) (begun c) fib ≡ readBlock c fib
+pub run-full : (n : ℕ) (a : Ran) (bytes : List ℕ) → runBlocks n a bytes .full ≡ a .full + roomlessBlocks n (a .answer .left) bytes
+unfolding runBlocks roomlessBlocks
+run-full zero a bytes = sym (add-zero (a .full))
+run-full (suc n) a bytes =
+    let b = readBlock (a .answer .left) (take 32 bytes) in
+    let x = withoutRoom (b .notes) in
+    let y = roomlessBlocks n (b .left) (drop 32 bytes) in
+    let sum : a .full + x + y ≡ a .full + (x + y) = omega arith in
+    run-full n (counted (a .full) b) (drop 32 bytes) ∙ sum
+
+pub run-one : (c : Content) (fib : List ℕ) → length fib ≡ 32 → runBlocks (length fib / 32) (begun c) fib .answer ≡ readBlock c fib
 unfolding runBlocks begun
 run-one c fib l =
     let e : length fib / 32 ≡ 1 = omega arith in
-    ap (λ (n : ℕ). runBlocks n (begun c) fib) e ∙ ap (readBlock c) (take-all 32 fib (omega arith))
+    ap (λ (n : ℕ). runBlocks n (begun c) fib .answer) e ∙ ap (readBlock c) (take-all 32 fib (omega arith))
+
+-- what a run says of its last block
+pub run-answers : (c : Content) (fib : List ℕ) (r : Run) → length fib ≡ 32 → r ≡ ranAs (runBlocks (length fib / 32) (begun c) fib)
+    → record { outcome = r .reply .outcome; place = r .reply .place; notes = r .reply .notes; table = r .table } ≡ runAs (readBlock c fib)
+unfolding ranAs runAs
+run-answers c fib r l e =
+    ap (λ (x : Run). record { outcome = x .reply .outcome; place = x .reply .place; notes = x .reply .notes; table = x .table }) e ∙ ap runAs (run-one c fib l)
 
 pub not-a-block : (c : Content) (t : Table) (fib : List ℕ) (ns : Notes) → t ≡ storeTable c → (length fib ≡ 32 → ⊥) → ns ≡ noNotes
-    → record { outcome = NotABlock; notes = ns; table = t } ≡ runAs (readBlock c fib)
+    → record { outcome = NotABlock; place = 0; notes = ns; table = t } ≡ runAs (readBlock c fib)
 unfolding runAs
 not-a-block c t fib ns e n z =
-    (λ i. record { outcome = NotABlock; notes = (z ∙ no-notes) i; table = e i }) ∙ ap runAs (sym (no-block c fib n))
+    (λ i. record { outcome = NotABlock; place = 0; notes = (z ∙ no-notes) i; table = e i }) ∙ ap runAs (sym (no-block c fib n))
 
-pub recorded : (c : Content) (bytes : List ℕ) (a : Run) → a ≡ runAs (runBlocks (length bytes / 32) (begun c) bytes)
-    → record { outcome = Done; rest = length bytes % 32; table = a .table } ≡ recordedAs c bytes
-unfolding recordedAs leftOver readRecording runAs begun
-recorded c bytes a e =
-    ap (λ (t : Table). record { outcome = Done; rest = length bytes % 32; table = t })
-    (ap (λ (x : Run). x .table) e ∙ ap (λ (d : Content). storeTable d) (run-left (length bytes / 32) (begun c) bytes))
+pub recorded : (c : Content) (bytes : List ℕ) (r : Run) → r ≡ ranAs (runBlocks (length bytes / 32) (begun c) bytes)
+    → record { outcome = Done; rest = length bytes % 32; full = r .reply .full; table = r .table } ≡ recordedAs c bytes
+unfolding recordedAs leftOver roomless readRecording ranAs begun
+recorded c bytes r e =
+    let full = ap (λ (x : Run). x .reply .full) e ∙ run-full (length bytes / 32) (begun c) bytes ∙ zero-add (roomlessBlocks (length bytes / 32) c bytes) in
+    let left = ap (λ (x : Run). x .table) e ∙ ap (λ (d : Content). storeTable d) (run-left (length bytes / 32) (begun c) bytes) in
+    λ i. record { outcome = Done; rest = length bytes % 32; full = full i; table = left i }

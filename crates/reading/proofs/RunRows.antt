@@ -10,8 +10,6 @@ use mathlib.Core.Option.{Option, none, some}
 use lib.ListN.{length, getD, set, take, drop, replicate, length-map, length-set}
 use lib.Dec.{ltb, eqb}
 use Rattle.rules.specs.Arrays.{padded}
-use Rattle.rules.specs.declared.Outcome.{Outcome}
-use Rattle.rules.specs.declared.Outcome.the-variants.{Done}
 use Rattle.rules.specs.declared.Note.{Note}
 use Rattle.rules.specs.declared.Note.the-variants.{Opened}
 use Rattle.rules.specs.Collecting.{IdSet, Held, Entries, setsMeet, entriesMeet, entryMeets, ifThere, mostKeys, mostIds}
@@ -35,14 +33,13 @@ use Rattle.block.specs.declared.Spots.{Spots}
 use Rattle.block.specs.declared.Judged.{Judged}
 use Rattle.block.specs.Judged.{fieldIn, noSpot, noSpots}
 use Rattle.block.proofs.Meaning.{bodyAt, JudgedAs}
-use Rattle.reading.specs.declared.Answer.{Answer}
 use Rattle.reading.specs.declared.Reply.{Reply}
 use Rattle.reading.specs.declared.rows.Row.{Row}
 use Rattle.reading.specs.declared.rows.Rows.{Rows}
 use Rattle.reading.specs.declared.rows.Stepped.{Stepped}
-use Rattle.reading.specs.Steps.{isShowing, HeldStep, opensIn, unheldNote, noNotes, notedAt, isDone}
+use Rattle.reading.specs.Steps.{isShowing, HeldStep, opensIn, unheldNote, isDone}
 use Rattle.reading.specs.Gathered.{rowList, gathered, setsOf, packed, noRows, Whole, Laid, Unchanged, RowStep}
-use Rattle.reading.specs.Runs.{Runs}
+use Rattle.reading.specs.Runs.{noReply, replyTo, replyWith, Runs}
 use Rattle.sets.proofs.StoreLaws.{setAt}
 use Rattle.reading.proofs.RunLaws.{Going, going-first, going-end}
 use Rattle.reading.proofs.Turns.{turn-held, turn-new, turn-same, turn-taken, turn-refused}
@@ -111,7 +108,7 @@ pub record Kept (bytes : List ℕ) (t₀ : Table) (l : Sets) (on : List Bool) (s
   pub draft : Whole dn dk d
   pub shown-laid : Unchanged (l .shown) sn sk s
   pub draft-laid : Unchanged (l .draft) dn dk d
-  pub going : Going bytes t₀ (setsOf l on sn sk s dn dk d) (reply .notes) (reply .outcome) spots from at i
+  pub going : Going bytes t₀ (setsOf l on sn sk s dn dk d) reply spots from at i
 
 module _ (bytes : List ℕ) (t : Table) (stored : Stored t) (sn sk dn dk : List ℕ) (s d : Rows) (p : Laid (t .sets .shown) s sn sk) (q : Laid (t .sets .draft) d dn dk) where
   pub first-table : tableOf (setsOf (t .sets) (t .sets .on) sn sk s dn dk d) ≡ t
@@ -120,7 +117,7 @@ module _ (bytes : List ℕ) (t : Table) (stored : Stored t) (sn sk dn dk : List 
       ap tableOf (laid (t .sets) (stored .0 .sets) (stored .1) (ap (λ (u : Table). u .sets) (stored .2)) sn sk dn dk s d (p .same) (q .same))
       ∙ table-of t stored
 
-  pub kept-first : (reply : Reply) → reply ≡ record { outcome = Done; notes = noNotes } → (spots : Spots) → spots ≡ noSpots
+  pub kept-first : (reply : Reply) → reply ≡ noReply → (spots : Spots) → spots ≡ noSpots
       → Kept bytes (tableOf (setsOf (t .sets) (t .sets .on) sn sk s dn dk d)) (t .sets) (t .sets .on) sn sk s dn dk d reply spots 0 0 0
   unfolding Stored
   kept-first reply re spots se =
@@ -129,9 +126,7 @@ module _ (bytes : List ℕ) (t : Table) (stored : Stored t) (sn sk dn dk : List 
         draft = q .whole;
         shown-laid = unchanged-laid (t .sets .shown) sn sk s (p .same ∙ packed-shown (t .sets) (stored .0 .sets) (stored .1) (ap (λ (u : Table). u .sets) (stored .2)));
         draft-laid = unchanged-laid (t .sets .draft) dn dk d (q .same ∙ packed-draft (t .sets) (stored .0 .sets) (stored .1) (ap (λ (u : Table). u .sets) (stored .2)));
-        going =
-            subst (λ (o : Outcome). Going bytes (tableOf (setsOf (t .sets) (t .sets .on) sn sk s dn dk d)) (setsOf (t .sets) (t .sets .on) sn sk s dn dk d) (reply .notes) o spots 0 0 0) (sym (ap (λ (x : Reply). x .outcome) re))
-            (going-first bytes (tableOf (setsOf (t .sets) (t .sets .on) sn sk s dn dk d)) (reply .notes) spots (stored .0) (stored .1) (first-table ∙ stored .2) (ap (λ (x : Reply). x .notes) re) se);
+        going = going-first bytes (tableOf (setsOf (t .sets) (t .sets .on) sn sk s dn dk d)) reply spots (stored .0) (stored .1) (first-table ∙ stored .2) re se;
       }
 
 -- ---- a turn
@@ -153,34 +148,21 @@ module _ {bytes : List ℕ} {t₀ : Table} {l : Sets} {on : List Bool} {sn sk : 
 
   -- the end
   pub kept-end : spots .count ≤ i → length bytes - at < 32 → (u : Table) → t₀ ≡ u → (r : Table) → r ≡ tableOf t
-      → (answer : Answer) → answer ≡ record { outcome = reply .outcome; notes = reply .notes; table = r } → Runs u bytes answer
-  kept-end a b u e r re answer ae =
-      subst (λ (x : Answer). Runs u bytes x) (sym ae)
-      (subst (λ (x : Table). Runs x bytes (record { outcome = reply .outcome; notes = reply .notes; table = r })) e
-      (going-end bytes t₀ t (reply .notes) (reply .outcome) spots from at i (K .going) a b r re))
+      → Runs u bytes (record { reply = reply; table = r })
+  kept-end a b u e r re =
+      subst (λ (x : Table). Runs x bytes (record { reply = reply; table = r })) e (going-end bytes t₀ t reply spots from at i (K .going) a b r re)
 
   -- a field
   module _ (lt : i < spots .count) (body : List ℕ) (body-is : body ≡ bodyAt (take 32 (drop from bytes)) (getD (spots .spots) i noSpot))
       (f : Field) (f-is : f ≡ fieldIn body (getD (spots .spots) i noSpot .place)) (key : ℕ) (ke : key ≡ keyIn f) (p : ℕ) (p-is : p ≡ placeIn (take (l .count) (l .keys)) key)
       (reply' : Reply) where
-    abbrev noted' : Note → Type 0
-    noted' n = reply' ≡ record { outcome = reply .outcome; notes = notedAt (reply .notes) i n }
-
-    -- the reply keeps the outcome
-    kept-with : {l' : Sets} {on' : List Bool} {sn' sk' : List ℕ} {s' : Rows} {dn' dk' : List ℕ} {d' : Rows} (n : Note) → noted' n → Whole sn' sk' s' → Whole dn' dk' d'
+    kept : {l' : Sets} {on' : List Bool} {sn' sk' : List ℕ} {s' : Rows} {dn' dk' : List ℕ} {d' : Rows} → Whole sn' sk' s' → Whole dn' dk' d'
         → Unchanged (l' .shown) sn' sk' s' → Unchanged (l' .draft) dn' dk' d'
-        → Going bytes t₀ (setsOf l' on' sn' sk' s' dn' dk' d') (reply' .notes) (reply .outcome) spots from at (i + 1) → Kept bytes t₀ l' on' sn' sk' s' dn' dk' d' reply' spots from at (i + 1)
-    kept-with {l'} {on'} {sn'} {sk'} {s'} {dn'} {dk'} {d'} n re ws wd us ud G =
-        record {
-          shown = ws;
-          draft = wd;
-          shown-laid = us;
-          draft-laid = ud;
-          going = subst (λ (o : Outcome). Going bytes t₀ (setsOf l' on' sn' sk' s' dn' dk' d') (reply' .notes) o spots from at (i + 1)) (sym (ap (λ (x : Reply). x .outcome) re)) G;
-        }
+        → Going bytes t₀ (setsOf l' on' sn' sk' s' dn' dk' d') reply' spots from at (i + 1) → Kept bytes t₀ l' on' sn' sk' s' dn' dk' d' reply' spots from at (i + 1)
+    kept ws wd us ud G = record { shown = ws; draft = wd; shown-laid = us; draft-laid = ud; going = G }
 
-    notes-are : (n : Note) → noted' n → reply' .notes ≡ notedAt (reply .notes) i n
-    notes-are n re = ap (λ (x : Reply). x .notes) re
+    abbrev noted' : Note → Type 0
+    noted' n = reply' ≡ replyWith reply i n
 
     -- of a held key
     module _ (b : (ltb p (l .count) && eqb (getD (l .keys) p 0) key) ≡ true) (hp : p < mostKeys) (k : ℕ) (k-is : k ≡ mostIds) (row list : Row)
@@ -233,13 +215,13 @@ module _ {bytes : List ℕ} {t₀ : Table} {l : Sets} {on : List Bool} {sn sk : 
           → Kept bytes t₀ l on' (put' sn sn') (put' sk sk') (rows' s (r .shown .len) (r .shown .named)) (put' dn dn') (put' dk dk') (rows' d (r .draft .len) (r .draft .named)) reply' spots from at (i + 1)
       unfolding setsOf
       kept-held re =
-          kept-with (r .note) re (whole' sn sk s (K .shown) sn' sk' lsn lsk (r .shown .len) (r .shown .named)) (whole' dn dk d (K .draft) dn' dk' ldn ldk (r .draft .len) (r .draft .named))
+          kept (whole' sn sk s (K .shown) sn' sk' lsn lsk (r .shown .len) (r .shown .named)) (whole' dn dk d (K .draft) dn' dk' ldn ldk (r .draft .len) (r .draft .named))
           (unchanged' (l .shown) sn sk s (K .shown) (K .shown-laid) sn' sk' lsn lsk (r .shown .len) (r .shown .named)) (unchanged' (l .draft) dn dk d (K .draft) (K .draft-laid) dn' dk' ldn ldk (r .draft .len) (r .draft .named))
-          (subst (λ (u : Sets). Going bytes t₀ u (reply' .notes) (reply .outcome) spots from at (i + 1)) table-is
-          (turn-held bytes t₀ t (reply .notes) (reply .outcome) spots from at i (K .going) lt body body-is f f-is key ke p p-is b
+          (subst (λ (u : Sets). Going bytes t₀ u reply' spots from at (i + 1)) table-is
+          (turn-held bytes t₀ t reply spots from at i (K .going) lt body body-is f f-is key ke p p-is b
           (record { draft = rowList dn' dk' (r .draft); shows = isShowing (r .note); note = r .note })
           (subst (λ (l : IdList). HeldStep body f l (record { draft = rowList dn' dk' (r .draft); shows = isShowing (r .note); note = r .note })) (sym draft-at) (step .drafted))
-          (rowList sn' sk' (r .shown)) (step .showing ∙ ap₂ (λ (x y : IdList). cond (isShowing (r .note)) x y) (sym draft-at) (sym shown-at)) (reply' .notes) (notes-are (r .note) re)))
+          (rowList sn' sk' (r .shown)) (step .showing ∙ ap₂ (λ (x y : IdList). cond (isShowing (r .note)) x y) (sym draft-at) (sym shown-at)) reply' re))
 
     -- of a key that is not held
     module _ (b : (ltb p (l .count) && eqb (getD (l .keys) p 0) key) ≡ false) where
@@ -248,24 +230,21 @@ module _ {bytes : List ℕ} {t₀ : Table} {l : Sets} {on : List Bool} {sn sk : 
           → Kept bytes t₀ t' (t' .on) sn' sk' s' dn' dk' d' reply' spots from at (i + 1)
       unfolding setsOf
       kept-new open' b256 t' now' ne te sn' sk' dn' dk' s' d' ps pd re =
-          let G = turn-new bytes t₀ t (reply .notes) (reply .outcome) spots from at i (K .going) lt body body-is f f-is key ke p p-is b open' b256 emptyList (withField emptyList body f) refl refl
-          t' (te ∙ ap (λ (u : Sets). openedSets u p key (eqb (f .la) 1) (withField emptyList body f .list)) ne) (reply' .notes) (notes-are Opened re) in
-          kept-with Opened re (ps .whole) (pd .whole)
+          let G = turn-new bytes t₀ t reply spots from at i (K .going) lt body body-is f f-is key ke p p-is b open' b256 emptyList (withField emptyList body f) refl refl
+          t' (te ∙ ap (λ (u : Sets). openedSets u p key (eqb (f .la) 1) (withField emptyList body f .list)) ne) reply' re in
+          kept (ps .whole) (pd .whole)
           (unchanged-laid (t' .shown) sn' sk' s' (ps .same ∙ packed-shown t' (G .now' .sets) (G .now-meets) (G .stored))) (unchanged-laid (t' .draft) dn' dk' d' (pd .same ∙ packed-draft t' (G .now' .sets) (G .now-meets) (G .stored)))
-          (subst (λ (u : Sets). Going bytes t₀ u (reply' .notes) (reply .outcome) spots from at (i + 1)) (sym (laid t' (G .now' .sets) (G .now-meets) (G .stored) sn' sk' dn' dk' s' d' (ps .same) (pd .same))) G)
+          (subst (λ (u : Sets). Going bytes t₀ u reply' spots from at (i + 1)) (sym (laid t' (G .now' .sets) (G .now-meets) (G .stored) sn' sk' dn' dk' s' d' (ps .same) (pd .same))) G)
 
       pub kept-same : opensIn f (l .count) ≡ false → (n : Note) → n ≡ unheldNote f → noted' n → Kept bytes t₀ l on sn sk s dn dk d reply' spots from at (i + 1)
       unfolding setsOf
       kept-same shut' n ne re =
-          kept-with n re (K .shown) (K .draft) (K .shown-laid) (K .draft-laid)
-          (turn-same bytes t₀ t (reply .notes) (reply .outcome) spots from at i (K .going) lt body body-is f f-is key ke p p-is b shut' n ne (reply' .notes) (notes-are n re))
+          kept (K .shown) (K .draft) (K .shown-laid) (K .draft-laid)
+          (turn-same bytes t₀ t reply spots from at i (K .going) lt body body-is f f-is key ke p p-is b shut' n ne reply' re)
 
   -- a block
   module _ (a : spots .count ≤ i) (more : 32 ≤ length bytes - at) (b256 : (n : ℕ) → getD bytes n 0 < 256) (part : List ℕ) (part-is : part ≡ take 32 (drop at bytes)) (r : Judged)
-      (judged : JudgedAs part (verdict part) r) (reply' : Reply) (re : reply' ≡ record { outcome = r .outcome; notes = noNotes }) where
-    outcome-is : r .outcome ≡ reply' .outcome
-    outcome-is = sym (ap (λ (x : Reply). x .outcome) re)
-
+      (judged : JudgedAs part (verdict part) r) (reply' : Reply) (re : reply' ≡ replyTo reply (r .outcome) (r .place)) where
     pub kept-taken : isDone (r .outcome) ≡ true → Kept bytes t₀ l on sn sk s dn dk d reply' (r .spots) at (at + 32) 0
     kept-taken y =
         record {
@@ -273,9 +252,7 @@ module _ {bytes : List ℕ} {t₀ : Table} {l : Sets} {on : List Bool} {sn sk : 
           draft = K .draft;
           shown-laid = K .shown-laid;
           draft-laid = K .draft-laid;
-          going =
-              subst (λ (o : Outcome). Going bytes t₀ t (reply' .notes) o (r .spots) at (at + 32) 0) outcome-is
-              (turn-taken bytes t₀ t (reply .notes) (reply .outcome) spots from at i (K .going) a more b256 part part-is r (reply' .notes) (ap (λ (x : Reply). x .notes) re) judged y);
+          going = turn-taken bytes t₀ t reply spots from at i (K .going) a more b256 part part-is r reply' re judged y;
         }
 
     pub kept-refused : isDone (r .outcome) ≡ false → (d' : Rows) → d' ≡ noRows → Kept bytes t₀ l on sn sk s dn dk d' reply' (r .spots) at (at + 32) 0
@@ -288,7 +265,6 @@ module _ {bytes : List ℕ} {t₀ : Table} {l : Sets} {on : List Bool} {sn sk : 
           shown-laid = K .shown-laid;
           draft-laid = subst (Unchanged (l .draft) dn dk) (sym de) (unchanged-none (l .draft) dn dk);
           going =
-              subst (λ (o : Outcome). Going bytes t₀ (setsOf l on sn sk s dn dk d') (reply' .notes) o (r .spots) at (at + 32) 0) outcome-is
-              (subst (λ (x : List IdList). Going bytes t₀ (withLists l on (gathered sn sk s) x) (reply' .notes) (r .outcome) (r .spots) at (at + 32) 0) (sym no-lists)
-              (turn-refused bytes t₀ t (reply .notes) (reply .outcome) spots from at i (K .going) a more b256 part part-is r (reply' .notes) (ap (λ (x : Reply). x .notes) re) judged y emptyList refl));
+              subst (λ (x : List IdList). Going bytes t₀ (withLists l on (gathered sn sk s) x) reply' (r .spots) at (at + 32) 0) (sym no-lists)
+              (turn-refused bytes t₀ t reply spots from at i (K .going) a more b256 part part-is r reply' re judged y emptyList refl);
         }

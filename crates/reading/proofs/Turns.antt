@@ -47,11 +47,12 @@ use Rattle.block.specs.declared.Spots.{Spots}
 use Rattle.block.specs.declared.Judged.{Judged}
 use Rattle.block.specs.Judged.{fieldIn, noSpot}
 use Rattle.block.proofs.Meaning.{bodyAt, SpotIs, SpotsAre, JudgedAs, isTaken, isRefused, isNoBlock}
-use Rattle.reading.specs.declared.Notes.{Notes}
-use Rattle.reading.specs.Steps.{ListStep, isShowing, steppedAs, HeldStep, opensIn, unheldNote, notedAt, noNotes, isDone}
+use Rattle.reading.specs.declared.Reply.{Reply}
+use Rattle.reading.specs.Steps.{ListStep, isShowing, steppedAs, HeldStep, opensIn, unheldNote, isDone}
+use Rattle.reading.specs.Runs.{replyTo, replyWith}
 use Rattle.reading.proofs.HeldLaws.{act-none, act-more, act-start}
 use Rattle.reading.proofs.StepLaws.{at', step-here, step-new, step-full, step-unknown-more, step-unknown-none, store-new, held-state, held-shown}
-use Rattle.reading.proofs.RunLaws.{Going, field-now, spot-now, good-now, more-fields, few-fields, going-next, going-taken, going-refused, part-bytes}
+use Rattle.reading.proofs.RunLaws.{Going, field-now, spot-now, good-now, more-fields, few-fields, few-full, going-next, going-taken, going-refused, part-bytes}
 
 -- ---- a part of a part
 
@@ -85,21 +86,21 @@ body-of bytes from s o e =
 
 -- ---- a turn at a field
 
-module _ (bytes : List ℕ) (t₀ : Table) (t : Sets) (notes : Notes) (o : Outcome) (spots : Spots) (from at i : ℕ) (G : Going bytes t₀ t notes o spots from at i)
+module _ (bytes : List ℕ) (t₀ : Table) (t : Sets) (reply : Reply) (spots : Spots) (from at i : ℕ) (G : Going bytes t₀ t reply spots from at i)
     (h : i < spots .count) (body : List ℕ) (body-is : body ≡ bodyAt (take 32 (drop from bytes)) (getD (spots .spots) i noSpot))
     (f : Field) (f-is : f ≡ fieldIn body (getD (spots .spots) i noSpot .place)) (key : ℕ) (ke : key ≡ keyIn f) (p : ℕ) (p-is : p ≡ placeIn (take (t .count) (t .keys)) key) where
   abbrev at-place : ℕ
   at-place = getD (spots .spots) i noSpot .place
 
   g : FieldOf
-  g = field-now bytes t₀ t notes o spots from at i G
+  g = field-now bytes t₀ t reply spots from at i G
 
   c : Entries
   c = G .now' .sets
 
   spot : SpotIs (take 32 (drop from bytes)) (getD (spots .spots) i noSpot) g
   unfolding g
-  spot = spot-now bytes t₀ t notes o spots from at i G h
+  spot = spot-now bytes t₀ t reply spots from at i G h
 
   means : meaning body f ≡ g
   means = ap (meaning body) f-is ∙ ap (λ (b : List ℕ). meaning b (fieldIn b at-place)) body-is ∙ spot .means
@@ -119,7 +120,7 @@ module _ (bytes : List ℕ) (t₀ : Table) (t : Sets) (notes : Notes) (o : Outco
 
   reserved : f .qualifier ≡ 2 → ⊥
   unfolding g meaning
-  reserved q = good-now bytes t₀ t notes o spots from at i G h .reserved (sym (ap (λ (x : FieldOf). x .qualifier) means) ∙ q)
+  reserved q = good-now bytes t₀ t reply spots from at i G h .reserved (sym (ap (λ (x : FieldOf). x .qualifier) means) ∙ q)
 
   -- the key stands at its place, or nowhere
   here : (ltb p (t .count) && eqb (getD (t .keys) p 0) key) ≡ true → Here c (keyOf g)
@@ -194,20 +195,20 @@ module _ (bytes : List ℕ) (t₀ : Table) (t : Sets) (notes : Notes) (o : Outco
         (λ k. setAt (G .stored k) (place k) ((la-is ∙ sym (held-state x (eqb (g .la) 1) (actOf g))) k) (e k) (result k .draft))
         ∙ sym (store-set c j (after .0) within (onHeld-key linkage x (eqb (g .la) 1) tt (actOf g)))
 
-    turn-with : (shown : IdList) → shown ≡ storeMaybe (after .0 .shown) → (notes' : Notes) → notes' ≡ notedAt notes i (r .note)
-        → Going bytes t₀ (setAt t p (eqb (f .la) 1) shown (r .draft)) notes' o spots from at (i + 1)
+    turn-with : (shown : IdList) → shown ≡ storeMaybe (after .0 .shown) → (reply' : Reply) → reply' ≡ replyWith reply i (r .note)
+        → Going bytes t₀ (setAt t p (eqb (f .la) 1) shown (r .draft)) reply' spots from at (i + 1)
     unfolding c g j x after steppedAs
-    turn-with shown e notes' q =
-        going-next bytes t₀ t notes o spots from at i G h _ notes' (after .1) (set c j (after .0))
-        (step-here c g (here b)) (table-is shown e) (q ∙ ap (λ (y : ListStep). notedAt notes i (y .note)) result)
+    turn-with shown e reply' q =
+        going-next bytes t₀ t reply spots from at i G h _ reply' (after .1) (set c j (after .0))
+        (step-here c g (here b)) (table-is shown e) (q ∙ ap (λ (y : ListStep). replyWith reply i (y .note)) result)
 
     shown-or : (b : Bool) → cond b (getD (t .draft) p past) (getD (t .shown) p past) ≡ storeMaybe (cond b (x .draft) (x .shown))
     shown-or true = draft-is
     shown-or false = shown-is
 
-    pub turn-held : (shown : IdList) → shown ≡ cond (r .shows) (getD (t .draft) p past) (getD (t .shown) p past) → (notes' : Notes) → notes' ≡ notedAt notes i (r .note)
-        → Going bytes t₀ (setAt t p (eqb (f .la) 1) shown (r .draft)) notes' o spots from at (i + 1)
-    turn-held shown e notes' q = turn-with shown (e ∙ shown-or (r .shows) ∙ sym shown-then) notes' q
+    pub turn-held : (shown : IdList) → shown ≡ cond (r .shows) (getD (t .draft) p past) (getD (t .shown) p past) → (reply' : Reply) → reply' ≡ replyWith reply i (r .note)
+        → Going bytes t₀ (setAt t p (eqb (f .la) 1) shown (r .draft)) reply' spots from at (i + 1)
+    turn-held shown e reply' q = turn-with shown (e ∙ shown-or (r .shows) ∙ sym shown-then) reply' q
 
   -- ---- a key that is not held
 
@@ -225,10 +226,10 @@ module _ (bytes : List ℕ) (t₀ : Table) (t : Sets) (notes : Notes) (o : Outco
 
     -- a start, and room
     pub turn-new : opensIn f (t .count) ≡ true → ((n : ℕ) → getD bytes n 0 < 256) → (l : IdList) (w : Grown) → l ≡ emptyList → w ≡ withField l body f
-        → (t' : Sets) → t' ≡ openedSets t p key (eqb (f .la) 1) (w .list) → (notes' : Notes) → notes' ≡ notedAt notes i Opened
-        → Going bytes t₀ t' notes' o spots from at (i + 1)
+        → (t' : Sets) → t' ≡ openedSets t p key (eqb (f .la) 1) (w .list) → (reply' : Reply) → reply' ≡ replyWith reply i Opened
+        → Going bytes t₀ t' reply' spots from at (i + 1)
     unfolding c g opensIn
-    turn-new open' b256 l w le we t' te notes' q =
+    turn-new open' b256 l w le we t' te reply' q =
         let has : hasListIn f ≡ true = and-left (hasListIn f) _ (and-left (hasListIn f && not (continues f)) _ open') in
         let starts : continues f ≡ false = not-true (continues f) (and-right (hasListIn f) _ (and-left (hasListIn f && not (continues f)) _ open')) in
         let few : length c < mostKeys = subst (λ (n : ℕ). n < mostKeys) count-is (ltb-true (t .count) mostKeys (and-right (hasListIn f && not (continues f)) _ open')) in
@@ -236,7 +237,7 @@ module _ (bytes : List ℕ) (t₀ : Table) (t : Sets) (notes : Notes) (o : Outco
         let list' : w .list ≡ storeList (opening linkage (brings g)) =
         ap (λ (x : Grown). x .list) (we ∙ ap (λ (x : IdList). withField x body f) le ∙ with-none body f (inside b256) reserved)
         ∙ ap (λ (y : FieldOf). storeList (opening linkage (brings y))) means in
-        going-next bytes t₀ t notes o spots from at i G h t' notes' Opened (insert linkage (fresh linkage (keyOf g) (eqb (g .la) 1) (brings g)) c)
+        going-next bytes t₀ t reply spots from at i G h t' reply' Opened (insert linkage (fresh linkage (keyOf g) (eqb (g .la) 1) (brings g)) c)
         (step-new c g ascending (nowhere b) act few)
         (te ∙ (λ k. openedSets (G .stored k) p (key-is k) (la-is k) (list' k)) ∙ sym (store-new c (keyOf g) p (eqb (g .la) 1) (brings g) (nowhere b) place few))
         q
@@ -248,43 +249,45 @@ module _ (bytes : List ℕ) (t₀ : Table) (t : Sets) (notes : Notes) (o : Outco
             found .field
 
     -- anything else changes nothing
-    same : (n : Note) → step linkage c (said g) ≡ (c, n) → (notes' : Notes) → notes' ≡ notedAt notes i n → Going bytes t₀ t notes' o spots from at (i + 1)
+    same : (n : Note) → step linkage c (said g) ≡ (c, n) → (reply' : Reply) → reply' ≡ replyWith reply i n → Going bytes t₀ t reply' spots from at (i + 1)
     unfolding c g
-    same n e notes' q = going-next bytes t₀ t notes o spots from at i G h t notes' n c e (G .stored) q
+    same n e reply' q = going-next bytes t₀ t reply spots from at i G h t reply' n c e (G .stored) q
 
-    pub turn-same : opensIn f (t .count) ≡ false → (n : Note) → n ≡ unheldNote f → (notes' : Notes) → notes' ≡ notedAt notes i n → Going bytes t₀ t notes' o spots from at (i + 1)
+    pub turn-same : opensIn f (t .count) ≡ false → (n : Note) → n ≡ unheldNote f → (reply' : Reply) → reply' ≡ replyWith reply i n → Going bytes t₀ t reply' spots from at (i + 1)
     unfolding opensIn unheldNote
-    turn-same shut' n ne notes' q =
+    turn-same shut' n ne reply' q =
         cases-bool (hasListIn f)
         (λ has. cases-bool (continues f)
-        (λ more. same UnknownKey (step-unknown-more c g ascending (nowhere b) (act-is noList (λ y. continuation (brings y)) (act-more body f has more))) notes'
-        (q ∙ ap (notedAt notes i) (ne ∙ rw (has, more))))
+        (λ more. same UnknownKey (step-unknown-more c g ascending (nowhere b) (act-is noList (λ y. continuation (brings y)) (act-more body f has more))) reply'
+        (q ∙ ap (replyWith reply i) (ne ∙ rw (has, more))))
         (λ starts.
         let full : mostKeys ≤ length c = subst (λ (k : ℕ). mostKeys ≤ k) count-is (ltb-false (t .count) mostKeys (rw (has, starts) at shut')) in
-        same Full (step-full c g ascending (nowhere b) (act-is noList (λ y. start (brings y)) (act-start body f has starts)) full) notes'
-        (q ∙ ap (notedAt notes i) (ne ∙ rw (has, starts)))))
-        (λ has. same UnknownKey (step-unknown-none c g ascending (nowhere b) (act-is noList (λ y. noList) (act-none body f has))) notes'
-        (q ∙ ap (notedAt notes i) (ne ∙ rw has)))
+        same Full (step-full c g ascending (nowhere b) (act-is noList (λ y. start (brings y)) (act-start body f has starts)) full) reply'
+        (q ∙ ap (replyWith reply i) (ne ∙ rw (has, starts)))))
+        (λ has. same UnknownKey (step-unknown-none c g ascending (nowhere b) (act-is noList (λ y. noList) (act-none body f has))) reply'
+        (q ∙ ap (replyWith reply i) (ne ∙ rw has)))
 
 -- ---- a refused block
 
 -- ---- what keeps the loop's indices within
 
-pub record Fits' (bytes : List ℕ) (spots : Spots) (from i : ℕ) : Type 0 where
+pub record Fits' (bytes : List ℕ) (reply : Reply) (spots : Spots) (from i : ℕ) : Type 0 where
   pub ordered : getD (spots .spots) i noSpot .start ≤ getD (spots .spots) i noSpot .end
   pub inside : getD (spots .spots) i noSpot .end ≤ 30
   pub block : from + 32 ≤ length bytes
   pub few : i < 14
+  pub full : reply .full < length bytes
 
-module _ (bytes : List ℕ) (t₀ : Table) (t : Sets) (notes : Notes) (o : Outcome) (spots : Spots) (from at i : ℕ) (G : Going bytes t₀ t notes o spots from at i) where
-  pub fits-now : i < spots .count → Fits' bytes spots from i
+module _ (bytes : List ℕ) (t₀ : Table) (t : Sets) (reply : Reply) (spots : Spots) (from at i : ℕ) (G : Going bytes t₀ t reply spots from at i) where
+  pub fits-now : i < spots .count → Fits' bytes reply spots from i
   fits-now h =
-      let s = spot-now bytes t₀ t notes o spots from at i G h in
+      let s = spot-now bytes t₀ t reply spots from at i G h in
       record {
         ordered = s .ordered;
         inside = s .inside;
-        block = G .inside (omega (arith, more-fields bytes t₀ t notes o spots from at i G h));
-        few = few-fields bytes t₀ t notes o spots from at i G h;
+        block = G .inside (omega (arith, more-fields bytes t₀ t reply spots from at i G h));
+        few = few-fields bytes t₀ t reply spots from at i G h;
+        full = few-full bytes t₀ t reply spots from at i G h;
       }
 
   pub table-short : t .count ≤ mostKeys
@@ -314,14 +317,14 @@ done-is BadCode e = absurd (false≢true e)
 
 -- a judged block has at most 14 spots
 pub judged-few : (fib : List ℕ) (r : Judged) → JudgedAs fib (verdict fib) r → r .spots .count ≤ 14
-judged-few fib r (isTaken fs v d p) = omega (arith, p .count, p .few)
-judged-few fib r (isRefused o v d z) = omega arith
-judged-few fib r (isNoBlock v d z) = omega arith
+judged-few fib r (isTaken fs v d e p) = omega (arith, p .count, p .few)
+judged-few fib r (isRefused o q v d e z) = omega arith
+judged-few fib r (isNoBlock v d e z) = omega arith
 
 -- a turn at a block: taken, or refused with every open list dropped
-module _ (bytes : List ℕ) (t₀ : Table) (t : Sets) (notes : Notes) (o : Outcome) (spots : Spots) (from at i : ℕ) (G : Going bytes t₀ t notes o spots from at i)
+module _ (bytes : List ℕ) (t₀ : Table) (t : Sets) (reply : Reply) (spots : Spots) (from at i : ℕ) (G : Going bytes t₀ t reply spots from at i)
     (h : spots .count ≤ i) (l : 32 ≤ length bytes - at) (b256 : (n : ℕ) → getD bytes n 0 < 256)
-    (part : List ℕ) (part-is : part ≡ take 32 (drop at bytes)) (r : Judged) (notes' : Notes) (none' : notes' ≡ noNotes) where
+    (part : List ℕ) (part-is : part ≡ take 32 (drop at bytes)) (r : Judged) (reply' : Reply) (reply-is : reply' ≡ replyTo reply (r .outcome) (r .place)) where
   fib : List ℕ
   fib = take 32 (drop at bytes)
 
@@ -339,20 +342,21 @@ module _ (bytes : List ℕ) (t₀ : Table) (t : Sets) (notes : Notes) (o : Outco
       ap₂ (λ (u : Sets) (x : IdList). withDraft u (replicate mostKeys x)) (G .stored) ne
       ∙ sym (store-closed (G .now' .sets) (table-rules (G .now' .sets) .0 (G .now-meets) .short))
 
-  pub turn-taken : JudgedAs part (verdict part) r → isDone (r .outcome) ≡ true → Going bytes t₀ t notes' (r .outcome) (r .spots) at (at + 32) 0
-  turn-taken (isTaken fs v d p) y =
-      going-taken bytes t₀ t notes o spots from at i G h l b256 fs (r .spots) notes' (r .outcome) (ap verdict (sym part-is) ∙ v) (subst (λ (x : List ℕ). SpotsAre x (r .spots) fs) part-is p) none' d
-  turn-taken (isRefused q v d z) y = absurd (refused-not-done part q v (done-is q (sym (ap isDone d) ∙ y)))
-  turn-taken (isNoBlock v d z) y = absurd (never-none v)
+  pub turn-taken : JudgedAs part (verdict part) r → isDone (r .outcome) ≡ true → Going bytes t₀ t reply' (r .spots) at (at + 32) 0
+  turn-taken (isTaken fs v d e p) y =
+      going-taken bytes t₀ t reply spots from at i G h l b256 fs (r .spots) reply' (ap verdict (sym part-is) ∙ v) (subst (λ (x : List ℕ). SpotsAre x (r .spots) fs) part-is p)
+      (reply-is ∙ ap₂ (replyTo reply) d e)
+  turn-taken (isRefused q w v d e z) y = absurd (refused-not-done part q w v (done-is q (sym (ap isDone d) ∙ y)))
+  turn-taken (isNoBlock v d e z) y = absurd (never-none v)
 
   pub turn-refused : JudgedAs part (verdict part) r → isDone (r .outcome) ≡ false → (none'' : IdList) → none'' ≡ emptyList
-      → Going bytes t₀ (withDraft t (replicate mostKeys none'')) notes' (r .outcome) (r .spots) at (at + 32) 0
+      → Going bytes t₀ (withDraft t (replicate mostKeys none'')) reply' (r .spots) at (at + 32) 0
   unfolding isDone
-  turn-refused (isTaken fs v d p) y n ne = absurd (true≢false (sym (ap isDone d) ∙ y))
-  turn-refused (isRefused q v d z) y n ne =
-      going-refused bytes t₀ t notes o spots from at i G h l _ (r .spots) notes' (r .outcome) q (ap verdict (sym part-is) ∙ v) d z none'
+  turn-refused (isTaken fs v d e p) y n ne = absurd (true≢false (sym (ap isDone d) ∙ y))
+  turn-refused (isRefused q w v d e z) y n ne =
+      going-refused bytes t₀ t reply spots from at i G h l _ (r .spots) reply' q w (ap verdict (sym part-is) ∙ v) (reply-is ∙ ap₂ (replyTo reply) d e) z
       (closed-table n ne)
-  turn-refused (isNoBlock v d z) y n ne = absurd (never-none v)
+  turn-refused (isNoBlock v d e z) y n ne = absurd (never-none v)
 
 -- the block that the code hands on
 pub block-part : (bytes : List ℕ) (at : ℕ) → take (at + 32 - at) (drop at bytes) ≡ take 32 (drop at bytes)

@@ -3,17 +3,18 @@
 // What a block does is readBlock of crate rules, on the table's stored form.
 
 ghost use mathlib.Core.Path.{_≡_};
-ghost use Prim.Native.Nat.{_<_};
+ghost use Prim.Native.Nat.{_+_, _<_};
 ghost use lib.ListN.{length};
 ghost use lib.Dec.{eqb};
-ghost use Rattle.rules.specs.Outcomes.{readBlock};
+ghost use Rattle.rules.specs.Block.{bit};
+ghost use Rattle.rules.specs.Outcomes.{readBlock, isFull};
 ghost use Rattle.table.specs.Stored.{Stored, Given};
 ghost use Rattle.sets.specs.Stored.{openedSets};
 ghost use Rattle.lists.specs.Grown.{withField};
 ghost use Rattle.lists.specs.Stored.{emptyList};
 ghost use Rattle.reading.specs.Steps.{opensIn, unheldNote, noNotes, notedAt, isDone};
 ghost use Rattle.reading.specs.Gathered.{places, setsOf, Unchanged};
-ghost use Rattle.reading.specs.Runs.{Runs, runAs, refusedTable, recordedAs, unrecorded};
+ghost use Rattle.reading.specs.Runs.{noReply, replyTo, replyWith, Runs, runAs, refusedTable, recordedAs, unrecorded};
 
 mod rows;
 
@@ -96,56 +97,103 @@ fn is_done(outcome: Outcome) -> bool
     }
 }
 
-// The answer to a block: its outcome, one note a field where it is taken, and the table then. After
-// several blocks, the answer to the last.
+// Whether a start found no room.
+fn is_full(note: Note) -> bool
+    ensures { λ r. ⌜ r ≡ isFull note ⌝ }
+{
+    match note {
+        Note::Full => true,
+        _ => false,
+    }
+}
+
+// How many starts found no room, with one note more.
+fn with_start(full: usize, note: Note) -> usize
+    requires { ⌜ full < 18446744073709551615 ⌝ }
+    ensures { λ r. ⌜ r ≡ full + bit (isFull note) ⌝ }
+{
+    if is_full(note) {
+        return full + 1;
+    }
+    full
+}
+
+// The answer to a block: its outcome, the place where a refused block broke and else 0, one note a field where it is taken, and
+// the table then.
 pub struct Answer {
     pub outcome: Outcome,
+    pub place: usize,
     pub notes: Notes,
     pub table: Table,
 }
 
-// What is said of the present block, so far.
+// What is said of the present block, so far; and how many starts found no room, in all blocks.
 struct Reply {
     outcome: Outcome,
+    place: usize,
+    full: usize,
     notes: Notes,
 }
 
 impl Reply {
-    // To a block with this outcome, before its fields.
-    fn to(outcome: Outcome) -> Self
-        ensures { λ r. ⌜ r ≡ record { outcome = outcome; notes = noNotes } ⌝ }
+    // Before the first block.
+    fn none() -> Self
+        ensures { λ r. ⌜ r ≡ noReply ⌝ }
+    {
+        Reply {
+            outcome: Outcome::Done,
+            place: 0,
+            full: 0,
+            notes: Notes::none(),
+        }
+    }
+
+    // To a further block, with this outcome at this place, before its fields.
+    fn to(self, outcome: Outcome, place: usize) -> Self
+        ensures { λ r. ⌜ r ≡ replyTo self outcome place ⌝ }
     {
         Reply {
             outcome,
+            place,
+            full: self.full,
             notes: Notes::none(),
         }
     }
 
     // With the note of a field more.
     fn noted(self, at: usize, note: Note) -> Self
-        requires { ⌜ at < 14 ⌝ }
-        ensures { λ r. ⌜ r ≡ record { outcome = self .outcome; notes = notedAt (self .notes) at note } ⌝ }
+        requires { ⌜ (at < 14) × (self .full < 18446744073709551615) ⌝ }
+        ensures { λ r. ⌜ r ≡ replyWith self at note ⌝ }
     {
         let outcome = self.outcome;
         let notes = self.notes;
         Reply {
             outcome,
+            place: self.place,
+            full: with_start(self.full, note),
             notes: notes.noted(at, note),
         }
     }
 
     // The answer, with this table.
     fn answer(self, table: Table) -> Answer
-        ensures { λ r. ⌜ r ≡ record { outcome = self .outcome; notes = self .notes; table = table } ⌝ }
+        ensures { λ r. ⌜ r ≡ record { outcome = self .outcome; place = self .place; notes = self .notes; table = table } ⌝ }
     {
         let outcome = self.outcome;
         let notes = self.notes;
         Answer {
             outcome,
+            place: self.place,
             notes,
             table,
         }
     }
+}
+
+// What blocks one after another come to: what is said of the last, and the table then.
+struct Run {
+    reply: Reply,
+    table: Table,
 }
 
 // The sets that were laid out, as they are now: on or off, shown in the rows of `sn` and `sk`, with open lists in those of `dn` and `dk`.
@@ -186,7 +234,7 @@ fn opened(sets: Sets, at: usize, key: u32, body: &[u8], f: Field) -> Sets
 // Reads the whole blocks of some bytes in order, field by field: a turn takes one field of the present block, or judges
 // the next block. Meanwhile the lists stand in rows: numbers and kinds of the sets in `sn` and `sk`, of the open lists
 // in `dn` and `dk`. These arrays are locals, so that a field's rows can be lent and no list is copied for it.
-fn run_blocks(table: Table, bytes: &[u8]) -> Answer
+fn run_blocks(table: Table, bytes: &[u8]) -> Run
     requires { ⌜ Stored table ⌝ }
     ensures { λ r. ⌜ Runs table (now (bytes .entry)) r ⌝ }
 {
@@ -201,7 +249,7 @@ fn run_blocks(table: Table, bytes: &[u8]) -> Answer
     let mut draft = rows::scatter(lists, &mut dn, &mut dk);
     let mut on = laid.on;
     let closed = Rows::none();
-    let mut reply = Reply::to(Outcome::Done);
+    let mut reply = Reply::none();
     let mut spots = block::no_spots();
     let mut from = 0;
     let mut at = 0;
@@ -255,13 +303,16 @@ fn run_blocks(table: Table, bytes: &[u8]) -> Answer
         } else {
             if bytes.len() - at < 32 {
                 let left = sets_of(laid, on, &sn, &sk, shown, &dn, &dk, draft);
-                return reply.answer(Table::of(left));
+                return Run {
+                    reply,
+                    table: Table::of(left),
+                };
             }
             from = at;
             at += 32;
             let judged = block::judge(&bytes[from..at]);
             let outcome = judged.outcome;
-            reply = Reply::to(outcome);
+            reply = reply.to(outcome, judged.place);
             spots = judged.spots;
             i = 0;
             if !is_done(outcome) {
@@ -271,13 +322,14 @@ fn run_blocks(table: Table, bytes: &[u8]) -> Answer
     }
 }
 
-// Reads one block into a table: 9, then 1 to 6, or 0 with one note a field.
+// Reads one block into a table: 9, then 1 to 6, each with its place, or 0 with one note a field.
 pub fn read_block(table: Table, fib: &[u8]) -> Answer
     ensures { λ r. ⌜ Given table (λ c. r ≡ runAs (readBlock c (now (fib .entry)))) (r ≡ refusedTable table) ⌝ }
 {
     if !table.meets() {
         return Answer {
             outcome: Outcome::WrongTable,
+            place: 0,
             notes: Notes::none(),
             table,
         };
@@ -285,17 +337,22 @@ pub fn read_block(table: Table, fib: &[u8]) -> Answer
     if fib.len() != 32 {
         return Answer {
             outcome: Outcome::NotABlock,
+            place: 0,
             notes: Notes::none(),
             table,
         };
     }
-    run_blocks(table, fib)
+    let run = run_blocks(table, fib);
+    let left = run.table;
+    let reply = run.reply;
+    reply.answer(left)
 }
 
-// What reading a whole recording leaves: 0 or 9, how many bytes were left over, and the table.
+// What reading a whole recording leaves: 0 or 9, how many bytes were left over, how many starts found no room, and the table.
 pub struct Recorded {
     pub outcome: Outcome,
     pub rest: usize,
+    pub full: usize,
     pub table: Table,
 }
 
@@ -307,6 +364,7 @@ pub fn read_recording(table: Table, bytes: &[u8]) -> Recorded
         return Recorded {
             outcome: Outcome::WrongTable,
             rest: 0,
+            full: 0,
             table,
         };
     }
@@ -315,6 +373,7 @@ pub fn read_recording(table: Table, bytes: &[u8]) -> Recorded
     Recorded {
         outcome: Outcome::Done,
         rest: bytes.len() % 32,
+        full: run.reply.full,
         table: left,
     }
 }

@@ -1,11 +1,11 @@
 -- `reading::read_block` meets its contract: the table's own test, the block's length, and one block of a run.
-use mathlib.Core.Path.{ap, _∙_}
+use mathlib.Core.Path.{_∙_}
 use borrow.Author.Tests.{not-true, not-false}
 use Rattle.rules.specs.declared.Outcome.the-variants.{WrongTable}
 use Rattle.table.specs.Stored.{stored}
 use Rattle.table.proofs.GivenLaws.{given-wrong, given-right}
-use Rattle.reading.specs.Runs.{Runs, runAs, refusedTable}
-use Rattle.reading.proofs.RunLaws.{run-one, not-a-block}
+use Rattle.reading.specs.Runs.{Runs, refusedTable}
+use Rattle.reading.proofs.RunLaws.{run-answers, not-a-block}
 use borrow.Author.Needs.{needs}
 use Rattle.reading.proofs.read_block.Statement.{statement}
 use Rattle.reading.proofs.read_block.Tie as tie
@@ -23,7 +23,7 @@ none-requires c κs = search needs
 
 returns : tie.Need-returns
 unfolding refusedTable
-returns c = given-wrong (c .before .before .meets .ensures) (not-true _ (c .before .if1 .taken)) (λ i. record { outcome = WrongTable; notes = c .none .ensures i; table = c .before .before .before .before .args .table })
+returns c = given-wrong (c .before .before .meets .ensures) (not-true _ (c .before .if1 .taken)) (λ i. record { outcome = WrongTable; place = 0; notes = c .none .ensures i; table = c .before .before .before .before .args .table })
 
 none-requires-2 : tie.Need-none-requires-2
 none-requires-2 c κs = search needs
@@ -34,11 +34,14 @@ returns-2 c = given-right (c .before .before .before .meets .ensures) (not-false
 run-blocks-requires : tie.Need-run-blocks-requires
 run-blocks-requires c κs = c .before .before .meets .ensures .sound (not-false _ (c .before .if1 .left))
 
+answer-requires : tie.Need-answer-requires
+answer-requires c κs = search needs
+
 returns-3 : tie.Need-returns-3
 unfolding Runs
 returns-3 c =
-    let w = c .run-blocks .ensures in
-    stored (w .0) (w .1) (w .2) (w .3 ∙ ap runAs (run-one (w .0) _ (c .before .if2 .left)))
+    let w = c .before .before .before .run-blocks .ensures in
+    stored (w .0) (w .1) (w .2) (c .answer .ensures ∙ run-answers (w .0) _ _ (c .before .before .before .before .if2 .left) (w .3))
 
 pub read-block-spec : {M : Type 1} → statement M
 read-block-spec =
@@ -50,4 +53,5 @@ read-block-spec =
     none-requires-2
     returns-2
     run-blocks-requires
+    answer-requires
     returns-3)

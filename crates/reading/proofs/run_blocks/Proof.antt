@@ -23,13 +23,13 @@ use Rattle.block.proofs.Spot.field.Reads as field-reads
 use Rattle.block.proofs.judge.Reads as judge-reads
 use Rattle.block.proofs.no_spots.Reads as no-spots-reads
 use Rattle.field.proofs.Field.key.Reads as key-reads
-use Rattle.reading.proofs.Reply.answer.Reads as answer-reads
 use Rattle.reading.proofs.Reply.noted.Reads as noted-reads
 use Rattle.reading.proofs.Reply.to.Reads as to-reads
 use Rattle.reading.proofs.is_done.Reads as is-done-reads
 use Rattle.reading.proofs.opened.Reads as opened-reads
 use Rattle.reading.proofs.opens.Reads as opens-reads
 use Rattle.reading.proofs.rows.Rows.none.Reads as none-reads
+use Rattle.reading.proofs.Reply.none.Reads as none-reads-2
 use Rattle.reading.proofs.rows.on_held.Reads as on-held-reads
 use Rattle.reading.proofs.rows.row_at.Reads as row-at-reads
 use Rattle.reading.proofs.rows.scatter.Reads as scatter-reads
@@ -121,8 +121,12 @@ laid-first : (c : tie.After-no-spots Inv-loop μ-loop)
 laid-first c = first-table (laid-out c .args .bytes .now) _ (laid-out c .pre) _ _ _ _ _ _ (sets-out c .scatter .ensures) (lists-out c .scatter2 .ensures)
 
 -- the present field stands within its block
-fits : (c : tie.Then1 Inv-loop μ-loop) → Fits' (start (c .before) .args .bytes .now) (c .before .loop .spots) (c .before .loop .from) (c .before .loop .i)
-fits c = fits-now _ _ _ _ _ _ _ _ _ (c .before .loop .inv .going) (c .if1 .taken)
+fits : (c : tie.Then1 Inv-loop μ-loop) → Fits' (start (c .before) .args .bytes .now) (c .before .loop .reply) (c .before .loop .spots) (c .before .loop .from) (c .before .loop .i)
+fits c = fits-now _ _ _ _ _ _ _ _ (c .before .loop .inv .going) (c .if1 .taken)
+
+-- one note more has its place, and the count of starts without room does not overflow
+noted-fits : (c : tie.Then1 Inv-loop μ-loop) → (c .before .loop .i < 14) × (c .before .loop .reply .full < 18446744073709551615)
+noted-fits c = let w = fits c in (w .few, omega (arith, w .full, bytes-fit (start (c .before))))
 
 -- the spot of the present field
 abbrev spot-of : (c : tie.Then1 Inv-loop μ-loop) → Spot
@@ -137,7 +141,7 @@ body-is c = body-of (start (c .before) .args .bytes .now) (c .before .loop .from
 -- a held key has one of 32 places
 held-place : (c : tie.Then2 Inv-loop μ-loop) → placed (c .before) .place-of .result < mostKeys
 unfolding setsOf
-held-place c = place-short _ _ _ _ _ _ _ _ _ (turn (c .before) .before .loop .inv .going) _ _ (sym (c .before .stands-at .ensures) ∙ c .if2 .taken)
+held-place c = place-short _ _ _ _ _ _ _ _ (turn (c .before) .before .loop .inv .going) _ _ (sym (c .before .stands-at .ensures) ∙ c .if2 .taken)
 
 -- ---- the needs
 
@@ -162,14 +166,14 @@ scatter-requires-2 c κs = search needs
 none-requires : tie.Need-none-requires Inv-loop μ-loop
 none-requires c κs = search needs
 
-to-requires : tie.Need-to-requires Inv-loop μ-loop
-to-requires c κs = search needs
+none-requires-2 : tie.Need-none-requires-2 Inv-loop μ-loop
+none-requires-2 c κs = search needs
 
 no-spots-requires : tie.Need-no-spots-requires Inv-loop μ-loop
 no-spots-requires c κs = search needs
 
 loop-holds : tie.Need-loop-holds Inv-loop μ-loop
-loop-holds c = kept-first _ (laid-out c .args .table) (laid-out c .pre) _ _ _ _ _ _ (sets-out c .scatter .ensures) (lists-out c .scatter2 .ensures) _ (c .before .to .ensures) _ (c .no-spots .ensures)
+loop-holds c = kept-first _ (laid-out c .args .table) (laid-out c .pre) _ _ _ _ _ _ (sets-out c .scatter .ensures) (lists-out c .scatter2 .ensures) _ (c .before .none2 .ensures) _ (c .no-spots .ensures)
 
 mul-spot : tie.Need-mul-spot Inv-loop μ-loop
 mul-spot c = let w = fits (c) in omega arith
@@ -322,7 +326,7 @@ array-write-on : tie.Need-array-write-on Inv-loop μ-loop
 array-write-on c = let w = held-place (stepped (c .before)) in omega arith
 
 noted-requires : tie.Need-noted-requires Inv-loop μ-loop
-noted-requires c κs = fits (turn (stepped (c .before) .before)) .few
+noted-requires c κs = noted-fits (turn (stepped (c .before) .before))
 
 add-i : tie.Need-add-i Inv-loop μ-loop
 add-i c = record { fits = next-fits _ (fits (turn (stepped (c .before .before) .before)) .few) }
@@ -396,7 +400,7 @@ scatter-requires-4 : tie.Need-scatter-requires-4 Inv-loop μ-loop
 scatter-requires-4 c κs = let K = opening (sets-laid c) .before .loop .inv in (K .draft .numbers, K .draft .kinds)
 
 noted-requires-2 : tie.Need-noted-requires-2 Inv-loop μ-loop
-noted-requires-2 c κs = fits (opening (sets-laid (c .before .before .before))) .few
+noted-requires-2 c κs = noted-fits (opening (sets-laid (c .before .before .before)))
 
 add-i-2 : tie.Need-add-i-2 Inv-loop μ-loop
 add-i-2 c = record { fits = next-fits _ (fits (opening (sets-laid (c .before .before .before .before))) .few) }
@@ -420,7 +424,7 @@ unheld-note-requires : tie.Need-unheld-note-requires Inv-loop μ-loop
 unheld-note-requires c κs = search needs
 
 noted-requires-3 : tie.Need-noted-requires-3 Inv-loop μ-loop
-noted-requires-3 c κs = fits (turn (c .before .before .before .before)) .few
+noted-requires-3 c κs = noted-fits (turn (c .before .before .before .before))
 
 add-i-3 : tie.Need-add-i-3 Inv-loop μ-loop
 add-i-3 c = record { fits = next-fits _ (fits (turn (c .before .before .before .before .before)) .few) }
@@ -455,14 +459,11 @@ sets-of-requires-2 c κs = let K = c .before .before .before .before .before .be
 of-requires : tie.Need-of-requires Inv-loop μ-loop
 of-requires c κs = search needs
 
-answer-requires : tie.Need-answer-requires Inv-loop μ-loop
-answer-requires c κs = search needs
-
 returns : tie.Need-returns Inv-loop μ-loop
 returns c =
-    let b = c .before .before .before .before .before .before .before in
+    let b = c .before .before .before .before .before .before in
     let l = b .before .before in
-    kept-end (l .loop .inv) (b .before .if1 .left) (b .if4 .taken) (start l .args .table) (laid-first (l .before)) (c .before .of .result) (c .before .of .ensures ∙ ap tableOf (c .before .before .sets-of2 .ensures)) _ (c .answer .ensures)
+    kept-end (l .loop .inv) (b .before .if1 .left) (b .if4 .taken) (start l .args .table) (laid-first (l .before)) (c .of .result) (c .of .ensures ∙ ap tableOf (c .before .sets-of2 .ensures))
 
 add-at : tie.Need-add-at Inv-loop μ-loop
 add-at c = let y = c .if4 .left in omega (arith, bytes-fit (start (c .before .before)))
@@ -479,8 +480,8 @@ part-judge-end c = search needs
 judge-requires : tie.Need-judge-requires Inv-loop μ-loop
 judge-requires c κs = search needs
 
-to-requires-2 : tie.Need-to-requires-2 Inv-loop μ-loop
-to-requires-2 c κs = search needs
+to-requires : tie.Need-to-requires Inv-loop μ-loop
+to-requires c κs = search needs
 
 is-done-requires : tie.Need-is-done-requires Inv-loop μ-loop
 is-done-requires c κs = search needs
@@ -492,7 +493,7 @@ loop-again-4 : tie.Need-loop-again-4 Inv-loop μ-loop
 loop-again-4 c =
     let b = c .before .before .before .before .before .before in
     let l = b .before .before in
-    kept-refused (l .loop .inv) (b .before .if1 .left) (b .if4 .left) (bytes-of l) _ (block-part (start l .args .bytes .now) (l .loop .at)) (c .before .before .before .before .judge .result) (says _ (c .before .before .before .before .judge .ensures)) _ (c .before .before .before .to2 .ensures)
+    kept-refused (l .loop .inv) (b .before .if1 .left) (b .if4 .left) (bytes-of l) _ (block-part (start l .args .bytes .now) (l .loop .at)) (c .before .before .before .before .judge .result) (says _ (c .before .before .before .before .judge .ensures)) _ (c .before .before .before .to .ensures)
     (sym (c .before .is-done .ensures) ∙ not-true _ (c .if5 .taken)) _ (c .before .before .before .before .before .before .before .before .before .before .before .none .ensures)
 
 loop-less-5 : tie.Need-loop-less-5 Inv-loop μ-loop
@@ -502,7 +503,7 @@ loop-again-5 : tie.Need-loop-again-5 Inv-loop μ-loop
 loop-again-5 c =
     let b = c .before .before .before .before .before .before in
     let l = b .before .before in
-    kept-taken (l .loop .inv) (b .before .if1 .left) (b .if4 .left) (bytes-of l) _ (block-part (start l .args .bytes .now) (l .loop .at)) (c .before .before .before .before .judge .result) (says _ (c .before .before .before .before .judge .ensures)) _ (c .before .before .before .to2 .ensures)
+    kept-taken (l .loop .inv) (b .before .if1 .left) (b .if4 .left) (bytes-of l) _ (block-part (start l .args .bytes .now) (l .loop .at)) (c .before .before .before .before .judge .result) (says _ (c .before .before .before .before .judge .ensures)) _ (c .before .before .before .to .ensures)
     (sym (c .before .is-done .ensures) ∙ not-false _ (c .if5 .left))
 
 pub run-blocks-spec : {M : Type 1} → statement M
@@ -518,7 +519,7 @@ run-blocks-spec =
     slice-aggregate-scatter-4
     scatter-requires-2
     none-requires
-    to-requires
+    none-requires-2
     no-spots-requires
     loop-holds
     mul-spot
@@ -601,14 +602,13 @@ run-blocks-spec =
     slice-aggregate-sets-of-8
     sets-of-requires-2
     of-requires
-    answer-requires
     returns
     add-at
     sub-judge
     part-judge-start
     part-judge-end
     judge-requires
-    to-requires-2
+    to-requires
     is-done-requires
     loop-less-4
     loop-again-4
