@@ -7,6 +7,7 @@ ghost use mathlib.Core.Path.{_≡_};
 ghost use mathlib.Core.List.{[], _∷_};
 ghost use Prim.Native.Nat.{_≤_, _<_, _/_, _%_, _^_};
 ghost use lib.ListN.{length, take};
+ghost use Rattle.rules.specs.Outcomes.{numberOf};
 ghost use Rattle.out.specs.Text.{hexDigit, hexText, decimal};
 ghost use Rattle.out.specs.Put.{Puts};
 
@@ -14,6 +15,29 @@ ghost use Rattle.out.specs.Put.{Puts};
 pub struct Written {
     pub outcome: Outcome,
     pub size: usize,
+}
+
+// An outcome's number.
+pub fn outcome_number(outcome: Outcome) -> usize
+    ensures { λ r. ⌜ r ≡ numberOf outcome ⌝ }
+{
+    match outcome {
+        Outcome::Done => 0,
+        Outcome::NotABlock => 1,
+        Outcome::CheckFails => 2,
+        Outcome::WrongFig => 3,
+        Outcome::WrongField => 4,
+        Outcome::WrongValue => 5,
+        Outcome::EmptyStart => 6,
+        Outcome::NotHeld => 7,
+        Outcome::ShortBuffer => 8,
+        Outcome::WrongTable => 9,
+        Outcome::NotASheet => 10,
+        Outcome::NotShown => 11,
+        Outcome::TooMuch => 12,
+        Outcome::TooManyPieces => 13,
+        Outcome::BadCode => 14,
+    }
 }
 
 // One byte at a place, and the place after it.

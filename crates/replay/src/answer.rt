@@ -1,6 +1,7 @@
 // The words of an answer, each at a place of a buffer and with a blank before it, and the place after it.
 use lists::IdList;
 use lists::least;
+use out::outcome_number;
 use out::put;
 use out::put_bytes;
 use out::put_decimal;
@@ -11,30 +12,7 @@ use rules::Outcome;
 use sets::Sets;
 use table::Table;
 ghost use mathlib.Core.Path.{_≡_};
-ghost use Rattle.rules.specs.Outcomes.{numberOf, noteNumber};
-
-// An outcome's number.
-pub(crate) fn outcome_number(outcome: Outcome) -> usize
-    ensures { λ r. ⌜ r ≡ numberOf outcome ⌝ }
-{
-    match outcome {
-        Outcome::Done => 0,
-        Outcome::NotABlock => 1,
-        Outcome::CheckFails => 2,
-        Outcome::WrongFig => 3,
-        Outcome::WrongField => 4,
-        Outcome::WrongValue => 5,
-        Outcome::EmptyStart => 6,
-        Outcome::NotHeld => 7,
-        Outcome::ShortBuffer => 8,
-        Outcome::WrongTable => 9,
-        Outcome::NotASheet => 10,
-        Outcome::NotShown => 11,
-        Outcome::TooMuch => 12,
-        Outcome::TooManyPieces => 13,
-        Outcome::BadCode => 14,
-    }
-}
+ghost use Rattle.rules.specs.Outcomes.{noteNumber};
 
 // A note's number.
 pub(crate) fn note_number(note: Note) -> usize

@@ -3,7 +3,6 @@
 use crate::answer;
 use crate::answer::is_kept_u8;
 use crate::answer::is_kept_u32;
-use crate::answer::outcome_number;
 use crate::answer::put_head;
 use crate::line::bytes_at;
 use crate::line::count_at;
@@ -13,6 +12,7 @@ use crate::line::place_of;
 use crate::spoil;
 use lists::least;
 use out::Written;
+use out::outcome_number;
 use out::put;
 use out::put_bytes;
 use table::Copied;

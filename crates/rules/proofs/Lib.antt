@@ -1,7 +1,7 @@
 -- The laws above the definitions of specs/. In order: small helpers; lists in arrays, and with one value more or less; the starred
 -- examples; the laws of collecting over any family, its notes, its runs, two tables of which one leads the other, fields of a held key,
 -- two receptions of which one is better, its table rules, a set that is sent in pieces, and entries by their places; the table rules of
--- linkage taken apart; the fields of a taken block, where they stand, and the linkage sets.
+-- linkage taken apart; the fields of a taken block, where they stand, and the linkage sets; the first fault of a refused block.
 pub mod Basics
 pub mod Arrays
 pub mod Shifts
@@ -19,3 +19,4 @@ pub mod TableRules
 pub mod Taken
 pub mod Places
 pub mod LinkageLaws
+pub mod FirstFault

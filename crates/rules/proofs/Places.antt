@@ -1,10 +1,10 @@
--- Where the FIGs and the fields of a block stand, and where a walk breaks off. In this order: a walk breaks off at something
+-- Where the FIGs and the fields of a block stand, and where a walk breaks off. In this order: a walk breaks off at the first thing that is
 -- wrong; the FIGs and the fields of a block break off inside its 30 bytes of data; the places of FIGs and of fields ascend.
 -- That a FIG is what stands at its place: figs-at, Taken.antt.
 use Prim.Native.Nat.{ℕ, zero, suc, _+_, _≤_, _<_}
 use native.Mathlib.Omega.{arith}
 use native.Mathlib.Nat.{zero-add}
-use mathlib.Core.Path.{_≡_, sym, _∙_, ap, subst}
+use mathlib.Core.Path.{_≡_, refl, sym, _∙_, ap, subst}
 use mathlib.Core.List.{List, [], _∷_, _++_}
 use lib.ListN.{length}
 use lib.Dec.{leb}
@@ -20,6 +20,19 @@ use Rattle.rules.proofs.Taken.{cases-step, cases-walk, broken-whole, jo
 broken-is : {A : Type 0} (p q : ℕ) → _≡_ {A = Walk A} (broken p) (broken q) → p ≡ q
 broken-is p q h = cc
 
+-- from p on there stand these items, one right after the other, up to q; places in the block are counted from the byte from
+abbrev pub Lead : {A : Type 0} → ℕ → (ℕ → Step A) → ℕ → List (Placed A) → ℕ → Type 0
+Lead from at p [] q = p ≡ q
+Lead from at p (x ∷ xs) q = (next : ℕ) × (at p ≡ item (x .what) next) × (x .place ≡ from + p) × Lead from at next xs q
+
+-- from p on items lead up to something wrong, at this place of the block
+pub record Breaks {A : Type 0} (from : ℕ) (at : ℕ → Step A) (p place : ℕ) : Type 0 where
+  pub here : ℕ
+  pub place-is : place ≡ from + here
+  pub before : List (Placed A)
+  pub lead : Lead from at p before here
+  pub fault : at here ≡ wrong
+
 -- steps that go on, up to a place from which on there is nothing
 module _ {A : Type 0} (from : ℕ) (at : ℕ → Step A) (size : ℕ) (goes : (p : ℕ) (a : A) (q : ℕ) → at p ≡ item a q → (p < q) × (q ≤ size))
     (over : (p : ℕ) → size ≤ p → at p ≡ end) where
@@ -29,8 +42,8 @@ module _ {A : Type 0} (from : ℕ) (at : ℕ → Step A) (size : ℕ) (goes : (p
       (λ h. let z : _≡_ {A = Step A} end wrong = sym (over p (leb-true size p h)) ∙ e in let n : _≡_ {A = ℕ} 0 1 = cc in absurd (omega arith))
       (λ h. leb-false size p h)
 
-  -- with steps enough, a walk breaks off where something is wrong
-  walk-breaks : (n p r : ℕ) → p ≤ size → size < p + n → walk from at n p ≡ broken r → (s : ℕ) × (r ≡ from + s) × (s < size) × (at s ≡ wrong)
+  -- with steps enough, a walk breaks off where something is wrong, and not before
+  walk-breaks : (n p r : ℕ) → p ≤ size → size < p + n → walk from at n p ≡ broken r → Breaks from at p r
   unfolding after
   walk-breaks zero p r h l e = absurd (omega arith)
   walk-breaks (suc n) p r h l e =
@@ -38,29 +51,59 @@ module _ {A : Type 0} (from : ℕ) (at : ℕ → Step A) (size : ℕ) (goes : (p
       (λ a q i. let g = goes p a q i in
       cases-walk (walk from at n q)
       (λ xs w. broken-whole r _ (sym e ∙ walk-item from at n p a q i ∙ ap (after _) w))
-      (λ s w. walk-breaks n q r (g .1) (omega (arith, g .0)) (w ∙ sym (walk-item from at n p a q i ∙ ap (after _) w) ∙ e)))
+      (λ s w.
+      let b = walk-breaks n q r (g .1) (omega (arith, g .0)) (w ∙ sym (walk-item from at n p a q i ∙ ap (after _) w) ∙ e) in
+      record {
+        here = b .here;
+        place-is = b .place-is;
+        before = record { place = from + p; what = a } ∷ b .before;
+        lead = (q, i, refl, b .lead);
+        fault = b .fault;
+      }))
       (λ i. broken-whole r [] (sym e ∙ walk-end from at n p i))
-      (λ i. (p, broken-is r (from + p) (sym e ∙ walk-wrong from at n p i), wrong-inside p i, i))
+      (λ i. record { here = p; place-is = broken-is r (from + p) (sym e ∙ walk-wrong from at n p i); before = []; lead = refl; fault = i })
 
--- the FIGs of a block break off in its data, where what stands is wrong
-pub figs-break : (fib : List ℕ) (p : ℕ) → length fib ≡ 32 → figs fib ≡ broken p → (p < 30) × (figAt fib p ≡ wrong)
+-- the FIGs of a block go on up to its 30 bytes of data
+module _ (fib : List ℕ) (l : length fib ≡ 32) where
+  fig-goes : (p : ℕ) (fig : Fig) (q : ℕ) → figAt fib p ≡ item fig q → (p < q) × (q ≤ 30)
+  fig-goes p fig q i = let s = fig-item fib p fig q l i in (omega (arith, s .ends), s .inside)
+
+  fig-over : (p : ℕ) → 30 ≤ p → figAt fib p ≡ end
+  unfolding figAt
+  fig-over p h = rw (le-leb 30 p h)
+
+pub figs-breaks : (fib : List ℕ) (p : ℕ) → length fib ≡ 32 → figs fib ≡ broken p → Breaks 0 (figAt fib) 0 p
 unfolding figs
-figs-break fib p l e =
-    let b = walk-breaks 0 (figAt fib) 30
-    (λ p fig q i. let s = fig-item fib p fig q l i in (omega (arith, s .ends), s .inside))
-    (λ p h. unfold figAt in rw (le-leb 30 p h)) 31 0 p (omega arith) (omega arith) e in
-    (omega (arith, b .1, b .2), ap (figAt fib) (b .1 ∙ zero-add (b .0)) ∙ b .3)
+figs-breaks fib p l e = walk-breaks 0 (figAt fib) 30 (fig-goes fib l) (fig-over fib l) 31 0 p (omega arith) (omega arith) e
 
--- the fields of a FIG break off in its body
+-- they break off in its data, where what stands is wrong
+pub figs-break : (fib : List ℕ) (p : ℕ) → length fib ≡ 32 → figs fib ≡ broken p → (p < 30) × (figAt fib p ≡ wrong)
+figs-break fib p l e =
+    let b = figs-breaks fib p l e in
+    (omega (arith, b .place-is, wrong-inside 0 (figAt fib) 30 (fig-goes fib l) (fig-over fib l) (b .here) (b .fault)), ap (figAt fib) (b .place-is ∙ zero-add (b .here)) ∙ b .fault)
+
+-- the fields of a FIG go on up to the end of its body
+module _ (body : List ℕ) where
+  field-goes : (p : ℕ) (f : Field) (q : ℕ) → fieldAt body p ≡ item f q → (p < q) × (q ≤ length body)
+  field-goes p f q i = let s = field-item body p f q i in (omega (arith, s .from), s .inside)
+
+  field-over : (p : ℕ) → length body ≤ p → fieldAt body p ≡ end
+  unfolding fieldAt
+  field-over p h = rw (le-leb (length body) p h)
+
+pub fields-breaks : (fig : Placed Fig) (p : ℕ) → 1 ≤ length (fig .what .body) → fieldsOf fig ≡ broken p → Breaks (fig .place + 1) (fieldAt (fig .what .body)) 1 p
+unfolding fieldsOf
+fields-breaks fig p l e =
+    let body = fig .what .body in
+    walk-breaks (fig .place + 1) (fieldAt body) (length body) (field-goes body) (field-over body) (length body) 1 p l (omega arith) e
+
+-- they break off in its body
 pub fields-break : (fig : Placed Fig) (p : ℕ) → 1 ≤ length (fig .what .body) → fieldsOf fig ≡ broken p
     → (fig .place < p) × (p < fig .place + 1 + length (fig .what .body))
-unfolding fieldsOf
 fields-break fig p l e =
     let body = fig .what .body in
-    let b = walk-breaks (fig .place + 1) (fieldAt body) (length body)
-    (λ p f q i. let s = field-item body p f q i in (omega (arith, s .from), s .inside))
-    (λ p h. unfold fieldAt in rw (le-leb (length body) p h)) (length body) 1 p l (omega arith) e in
-    (omega (arith, b .1), omega (arith, b .1, b .2))
+    let b = fields-breaks fig p l e in
+    (omega (arith, b .place-is), omega (arith, b .place-is, wrong-inside (fig .place + 1) (fieldAt body) (length body) (field-goes body) (field-over body) (b .here) (b .fault)))
 
 -- two walks, one after the other, break off where one of them does
 joined-breaks {ℓ} : {A : Type 0} {C : Type ℓ} (v w : Walk A) (p : ℕ) → joined v w ≡ broken p → (v ≡ broken p → C) → (w ≡ broken p → C) → C

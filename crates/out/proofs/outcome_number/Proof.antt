@@ -1,9 +1,9 @@
--- `replay::answer::outcome_number` meets its contract, variant by variant.
+-- `out::outcome_number` meets its contract, variant by variant.
 use mathlib.Core.Path.{sym, ap}
 use Rattle.rules.specs.Outcomes.{numberOf}
 use borrow.Author.Needs.{needs}
-use Rattle.replay.proofs.answer.outcome_number.Statement.{statement}
-use Rattle.replay.proofs.answer.outcome_number.Tie as tie
+use Rattle.out.proofs.outcome_number.Statement.{statement}
+use Rattle.out.proofs.outcome_number.Tie as tie
 
 enum-told : tie.Need-enum-told
 enum-told c = search needs
