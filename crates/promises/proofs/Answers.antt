@@ -16,9 +16,10 @@ use Rattle.rules.specs.Field.{Field}
 use Rattle.rules.specs.Family.{find, forget, dropOpen}
 use Rattle.rules.specs.Collecting.{linkage, IdSet, Held, Entries, Content, withSets, meets, mostKeys}
 use Rattle.rules.specs.Outcomes as Outcomes
-use Rattle.rules.specs.Outcomes.{numberOf, taken, verdict, leftOver, heldOr, forgetOutcome, forgotten, copySet, copyHeld, copyOut, notCopied}
+use Rattle.rules.specs.Outcomes.{numberOf, taken, verdict, leftOver, roomless, heldOr, forgetOutcome, forgotten, copySet, copyHeld, copyOut, notCopied}
 use Rattle.rules.proofs.Basics.{cases-bool, cases-option, none-some, or-cases, or-false-left, or-false-right}
 use Rattle.rules.proofs.LinkageLaws.{cases-verdict, answer-taken, answer-refused, no-block, notes-fields, Refused, Refusal, full-refusal, refused-full}
+use Rattle.rules.proofs.FirstFault.{FirstFault, first-fault-in-class}
 use Rattle.rules.proofs.TableRules.{table-rules}
 use Rattle.lists.specs.Stored.{emptyList}
 use Rattle.table.specs.declared.Table.{Table}
@@ -45,13 +46,15 @@ OpenDropped t u = u ≡ tableOf (withDraft (t .sets) (replicate mostKeys emptyLi
 
 pub data BlockAnswer (t : Table) (fib : List ℕ) (r : Answer) : Type 0 where
   -- 0, with one note a field
-  done : Stored t → (fs : List Field) → verdict fib ≡ taken fs → numberOf (r .outcome) ≡ 0 → r .notes .count ≡ length fs → BlockAnswer t fib r
+  done : Stored t → (fs : List Field) → verdict fib ≡ taken fs → numberOf (r .outcome) ≡ 0 → r .place ≡ 0 → r .notes .count ≡ length fs → BlockAnswer t fib r
   -- 1: everything is left as it was
-  notABlock : Stored t → (length fib ≡ 32 → ⊥) → numberOf (r .outcome) ≡ 1 → r .notes ≡ noNotes → r .table ≡ t → BlockAnswer t fib r
-  -- 2 to 6, each for its reason: everything but the open lists is left as it was
-  refusedBlock : Stored t → length fib ≡ 32 → Refused fib (numberOf (r .outcome)) → r .notes ≡ noNotes → OpenDropped t (r .table) → BlockAnswer t fib r
+  notABlock : Stored t → (length fib ≡ 32 → ⊥) → numberOf (r .outcome) ≡ 1 → r .place ≡ 0 → r .notes ≡ noNotes → r .table ≡ t → BlockAnswer t fib r
+  -- 2 to 6, each for its reason, at the place of the first fault within the class answered: everything but the open lists is left as
+  -- it was
+  refusedBlock : Stored t → length fib ≡ 32 → Refused fib (numberOf (r .outcome)) (r .place) → FirstFault fib (numberOf (r .outcome)) (r .place)
+      → r .notes ≡ noNotes → OpenDropped t (r .table) → BlockAnswer t fib r
   -- 9: everything is left as it was
-  wrongTable : (Stored t → ⊥) → numberOf (r .outcome) ≡ 9 → r .notes ≡ noNotes → r .table ≡ t → BlockAnswer t fib r
+  wrongTable : (Stored t → ⊥) → numberOf (r .outcome) ≡ 9 → r .place ≡ 0 → r .notes ≡ noNotes → r .table ≡ t → BlockAnswer t fib r
 
 dropped : (t u : Table) (c : Content) → meets c ≡ true → t ≡ storeTable c → u ≡ storeTable (withSets c (dropOpen linkage (c .sets))) → OpenDropped t u
 dropped t u c f p q =
@@ -66,53 +69,64 @@ read-block-answers t fib r (stored c f p a) =
     (λ l. cases-verdict (verdict fib)
     (λ fs e.
     let q = a ∙ ap runAs (answer-taken c fib fs e) in
-    done (c, f, p) fs e (ap (λ (x : Answer). numberOf (x .outcome)) q) (ap (λ (x : Answer). x .notes .count) a ∙ notes-fields c fib fs e))
-    (λ o e.
-    let q = a ∙ ap runAs (answer-refused c fib o e) in
-    let n = ap (λ (x : Answer). numberOf (x .outcome)) q in
-    let b = refused-full fib o e in
-    refusedBlock (c, f, p) (b .0) (subst (Refused fib) (sym n) (b .1))
+    done (c, f, p) fs e (ap (λ (x : Answer). numberOf (x .outcome)) q) (ap (λ (x : Answer). x .place) q)
+    (ap (λ (x : Answer). x .notes .count) a ∙ notes-fields c fib fs e))
+    (λ o w e.
+    let q = a ∙ ap runAs (answer-refused c fib o w e) in
+    let b = refused-full fib o w e in
+    let why = subst (λ (x : Answer). Refused fib (numberOf (x .outcome)) (x .place)) (sym q) (b .1) in
+    refusedBlock (c, f, p) (b .0) why (first-fault-in-class fib _ _ (b .0) why)
     (ap (λ (x : Answer). x .notes) q ∙ sym no-notes) (dropped t (r .table) c f p (ap (λ (x : Answer). x .table) q)))
     (λ e. absurd (subst (Refusal fib) e (full-refusal fib (eqb-true _ _ l)))))
     (λ l.
     let q = a ∙ ap runAs (no-block c fib (eqb-false _ _ l)) in
-    notABlock (c, f, p) (eqb-false _ _ l) (ap (λ (x : Answer). numberOf (x .outcome)) q) (ap (λ (x : Answer). x .notes) q ∙ sym no-notes)
+    notABlock (c, f, p) (eqb-false _ _ l) (ap (λ (x : Answer). numberOf (x .outcome)) q) (ap (λ (x : Answer). x .place) q) (ap (λ (x : Answer). x .notes) q ∙ sym no-notes)
     (ap (λ (x : Answer). x .table) q ∙ sym p))
 read-block-answers t fib r (notStored n a) =
-    wrongTable n (ap (λ (x : Answer). numberOf (x .outcome)) a) (ap (λ (x : Answer). x .notes) a) (ap (λ (x : Answer). x .table) a)
+    wrongTable n (ap (λ (x : Answer). numberOf (x .outcome)) a) (ap (λ (x : Answer). x .place) a) (ap (λ (x : Answer). x .notes) a) (ap (λ (x : Answer). x .table) a)
 
 -- a refusal leaves everything as it was, or it is one of 2 to 6, for its reason, and everything but the open lists is left as it was
 pub read-block-refused : (t : Table) (fib : List ℕ) (r : Answer) → BlockAnswer t fib r → (numberOf (r .outcome) ≡ 0 → ⊥)
-    → (r .table ≡ t) ⊎ (Refused fib (numberOf (r .outcome)) × OpenDropped t (r .table))
-read-block-refused t fib r (done s fs e o n) h = absurd (h o)
-read-block-refused t fib r (notABlock s l o n e) h = inl e
-read-block-refused t fib r (refusedBlock s l w n d) h = inr (w, d)
-read-block-refused t fib r (wrongTable s o n e) h = inl e
+    → (r .table ≡ t) ⊎ (Refused fib (numberOf (r .outcome)) (r .place) × OpenDropped t (r .table))
+read-block-refused t fib r (done s fs e o p n) h = absurd (h o)
+read-block-refused t fib r (notABlock s l o p n e) h = inl e
+read-block-refused t fib r (refusedBlock s l w f n d) h = inr (w, d)
+read-block-refused t fib r (wrongTable s o p n e) h = inl e
+
+-- the first fault within the class answered: what stands at the place of a refused block is at fault, and nothing of that class
+-- before it is; for 0, 1 and 9 the place is 0
+pub read-block-place : (t : Table) (fib : List ℕ) (r : Answer) → BlockAnswer t fib r → FirstFault fib (numberOf (r .outcome)) (r .place) ⊎ (r .place ≡ 0)
+read-block-place t fib r (done s fs e o p n) = inr p
+read-block-place t fib r (notABlock s l o p n e) = inr p
+read-block-place t fib r (refusedBlock s l w f n d) = inl f
+read-block-place t fib r (wrongTable s o p n e) = inr p
 
 -- ---- a recording: 0 or 9
-
-pub data RecordingAnswer (t : Table) (bytes : List ℕ) (r : Recorded) : Type 0 where
-  -- 0, with the number of bytes left over
-  done : Stored t → numberOf (r .outcome) ≡ 0 → r .rest ≡ length bytes % 32 → RecordingAnswer t bytes r
-  -- 9: everything is left as it was
-  wrongTable : (Stored t → ⊥) → numberOf (r .outcome) ≡ 9 → r .rest ≡ 0 → r .table ≡ t → RecordingAnswer t bytes r
-
-pub read-recording-answers : (t : Table) (bytes : List ℕ) (r : Recorded) → ReadsRecording t bytes r → RecordingAnswer t bytes r
-unfolding Stored recordedAs unrecorded numberOf leftOver
-read-recording-answers t bytes r (stored c f p a) = done (c, f, p) (ap (λ (x : Recorded). numberOf (x .outcome)) a) (ap (λ (x : Recorded). x .rest) a)
-read-recording-answers t bytes r (notStored n a) =
-    wrongTable n (ap (λ (x : Recorded). numberOf (x .outcome)) a) (ap (λ (x : Recorded). x .rest) a) (ap (λ (x : Recorded). x .table) a)
-
--- a refusal leaves everything as it was
-pub read-recording-refused : (t : Table) (bytes : List ℕ) (r : Recorded) → RecordingAnswer t bytes r → (numberOf (r .outcome) ≡ 0 → ⊥) → r .table ≡ t
-read-recording-refused t bytes r (done s o n) h = absurd (h o)
-read-recording-refused t bytes r (wrongTable s o n e) h = e
-
--- ---- forgetting: 0, 7 or 9
 
 -- a table stores a content that meets the rules
 abbrev pub Stores : Table → Content → Type 0
 Stores t c = (meets c ≡ true) × (t ≡ storeTable c)
+
+pub data RecordingAnswer (t : Table) (bytes : List ℕ) (r : Recorded) : Type 0 where
+  -- 0, with the number of bytes left over, and of starts that found no room
+  done : (c : Content) → Stores t c → numberOf (r .outcome) ≡ 0 → r .rest ≡ length bytes % 32 → r .full ≡ roomless c bytes → RecordingAnswer t bytes r
+  -- 9: everything is left as it was
+  wrongTable : (Stored t → ⊥) → numberOf (r .outcome) ≡ 9 → r .rest ≡ 0 → r .full ≡ 0 → r .table ≡ t → RecordingAnswer t bytes r
+
+pub read-recording-answers : (t : Table) (bytes : List ℕ) (r : Recorded) → ReadsRecording t bytes r → RecordingAnswer t bytes r
+unfolding Stored recordedAs unrecorded numberOf leftOver
+read-recording-answers t bytes r (stored c f p a) =
+    done c (f, p) (ap (λ (x : Recorded). numberOf (x .outcome)) a) (ap (λ (x : Recorded). x .rest) a) (ap (λ (x : Recorded). x .full) a)
+read-recording-answers t bytes r (notStored n a) =
+    wrongTable n (ap (λ (x : Recorded). numberOf (x .outcome)) a) (ap (λ (x : Recorded). x .rest) a) (ap (λ (x : Recorded). x .full) a)
+    (ap (λ (x : Recorded). x .table) a)
+
+-- a refusal leaves everything as it was
+pub read-recording-refused : (t : Table) (bytes : List ℕ) (r : Recorded) → RecordingAnswer t bytes r → (numberOf (r .outcome) ≡ 0 → ⊥) → r .table ≡ t
+read-recording-refused t bytes r (done c s o n f) h = absurd (h o)
+read-recording-refused t bytes r (wrongTable s o n f e) h = e
+
+-- ---- forgetting: 0, 7 or 9
 
 pub data ForgetAnswer (t : Table) (k : ℕ) (r : Forgotten) : Type 0 where
   -- 0: the key was held

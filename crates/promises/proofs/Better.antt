@@ -26,7 +26,7 @@ use Rattle.rules.proofs.LinkageLaws.{cases-verdict, Refusal, full-refusal}
 
 unfoldable pub opIn : Verdict → Op linkage
 opIn (taken fs) = takes (map said fs)
-opIn (refused o) = refuses
+opIn (refused o p) = refuses
 opIn noBlock = ignores
 
 unfoldable pub opOf : Operation → Op linkage
@@ -36,7 +36,7 @@ opOf (forgetting k) = forgets k
 pub answer-op : (t : Content) (v : Verdict) → answerTo t v .left .sets ≡ afterOp linkage (t .sets) (opIn v)
 unfolding answerTo afterOp opIn
 answer-op t (taken fs) = refl
-answer-op t (refused o) = refl
+answer-op t (refused o p) = refl
 answer-op t noBlock = refl
 
 pub after-op : (t : Content) (o : Operation) → afterOne t o .sets ≡ afterOp linkage (t .sets) (opOf o)
@@ -47,7 +47,7 @@ after-op t (forgetting k) = unfold afterOp in refl
 pub fields-op : (v : Verdict) → fieldsIn v ≡ saidIn linkage (opIn v)
 unfolding fieldsIn saidIn opIn
 fields-op (taken fs) = refl
-fields-op (refused o) = refl
+fields-op (refused o p) = refl
 fields-op noBlock = refl
 
 pub said-op : (o : Operation) → saidBy o ≡ saidIn linkage (opOf o)
@@ -56,7 +56,7 @@ said-op (block fib) = fields-op (verdict fib)
 said-op (forgetting k) = unfold saidIn in refl
 
 -- a block of 32 bytes with a failing check has no fields, and is refused
-pub spoilt-refused : (c : List ℕ) → length c ≡ 32 → checkHolds c ≡ false → verdict c ≡ refused CheckFails
+pub spoilt-refused : (c : List ℕ) → length c ≡ 32 → checkHolds c ≡ false → verdict c ≡ refused CheckFails 0
 unfolding verdict
 spoilt-refused c l h = rw (eq-eqb (length c) 32 l) (rw h)
 
@@ -76,7 +76,7 @@ pub worse-block : {bs ws : List (Op linkage)} (b : List ℕ) → length b ≡ 32
     → WorseRun linkage (opOf (block b) ∷ bs) (refuses ∷ ws)
 unfolding opOf opIn
 worse-block b l r =
-    cases-verdict (verdict b) (λ fs e. rw e (loses (map said fs) r)) (λ o e. rw e (keeps refuses r))
+    cases-verdict (verdict b) (λ fs e. rw e (loses (map said fs) r)) (λ o p e. rw e (keeps refuses r))
     (λ e. absurd (subst (Refusal b) e (full-refusal b l)))
 
 pub worse-run : {better worse : List Operation} → Worse better worse → WorseRun linkage (map opOf better) (map opOf worse)
@@ -107,7 +107,7 @@ keys-run t ops = rw (started-run ops)
 pub notes-in : (t : Content) (v : Verdict) → answerTo t v .notes ≡ steps linkage (t .sets) (fieldsIn v) .1
 unfolding answerTo fieldsIn steps
 notes-in t (taken fs) = refl
-notes-in t (refused o) = refl
+notes-in t (refused o p) = refl
 notes-in t noBlock = refl
 
 -- a block comes to show a set at a field exactly where that field's note says so

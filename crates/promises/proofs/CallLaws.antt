@@ -41,10 +41,10 @@ use Rattle.promises.proofs.Receptions.{map-at}
 -- ---- one call
 
 -- the notes that are read off are those that were stored
-pub reply-stored : (a : Outcomes.Answer) → blockReply (runAs a) ≡ record { outcome = numberOf (a .outcome); notes = map noteNumber (a .notes) }
+pub reply-stored : (a : Outcomes.Answer) → blockReply (runAs a) ≡ record { outcome = numberOf (a .outcome); place = a .place; notes = map noteNumber (a .notes) }
 unfolding blockReply runAs storeNotes numberNoted notedAs
 reply-stored a =
-    ap (λ (ns : List ℕ). record { outcome = numberOf (a .outcome); notes = ns })
+    ap (λ (ns : List ℕ). record { outcome = numberOf (a .outcome); place = a .place; notes = ns })
     (ap (map numberNoted) (take-padded 14 (notedAs Opened) (map notedAs (a .notes)) (length (a .notes)) (length-map (a .notes) notedAs))
     ∙ map-map numberNoted notedAs (a .notes))
 
@@ -126,7 +126,7 @@ pub shows-done : (c : Content) (v : Verdict) (j k : ℕ) (on : Bool) (l : IdSet)
     → answerTo c v .outcome ≡ Done
 unfolding answerTo fieldsIn ShowsIn
 shows-done c (taken fs) j k on l h = refl
-shows-done c (refused o) j k on l h = absurd h
+shows-done c (refused o p) j k on l h = absurd h
 shows-done c noBlock j k on l h = absurd h
 
 -- and where one came to be shown, it says so, with outcome 0

@@ -19,9 +19,10 @@ use Rattle.promises.proofs.Contracts.{ReadsBlock, Forgets}
 
 -- ---- what a caller is answered
 
--- the outcome's number, and the numbers of the notes, in order
+-- the outcome's number, the place, and the numbers of the notes, in order
 pub record Reply : Type 0 where
   pub outcome : ℕ
+  pub place : ℕ
   pub notes : List ℕ
 
 unfoldable pub numberNoted : Noted → ℕ
@@ -29,11 +30,11 @@ numberNoted n = noteNumber (n .note)
 
 -- read off an answer of read_block: its first `count` notes
 unfoldable pub blockReply : Answer → Reply
-blockReply r = record { outcome = numberOf (r .outcome); notes = map numberNoted (take (r .notes .count) (r .notes .notes)) }
+blockReply r = record { outcome = numberOf (r .outcome); place = r .place; notes = map numberNoted (take (r .notes .count) (r .notes .notes)) }
 
--- read off an answer of forget_key, which has no notes
+-- read off an answer of forget_key, which has no place and no notes
 unfoldable pub forgetReply : Forgotten → Reply
-forgetReply r = record { outcome = numberOf (r .outcome); notes = [] }
+forgetReply r = record { outcome = numberOf (r .outcome); place = 0; notes = [] }
 
 -- ---- a run of calls
 
@@ -74,8 +75,8 @@ afterAll c (o ∷ os) = afterAll (afterOne c o) os
 
 -- the reply to one operation
 unfoldable pub replyTo : Content → Operation → Reply
-replyTo c (block fib) = record { outcome = numberOf (readBlock c fib .outcome); notes = map noteNumber (readBlock c fib .notes) }
-replyTo c (forgetting k) = record { outcome = numberOf (forgetOutcome k c); notes = [] }
+replyTo c (block fib) = record { outcome = numberOf (readBlock c fib .outcome); place = readBlock c fib .place; notes = map noteNumber (readBlock c fib .notes) }
+replyTo c (forgetting k) = record { outcome = numberOf (forgetOutcome k c); place = 0; notes = [] }
 
 -- the replies to all of them, in order
 unfoldable pub repliesTo : Content → List Operation → List Reply

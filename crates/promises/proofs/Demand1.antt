@@ -3,8 +3,9 @@
 --
 -- Below, of the code of each public function, which requires nothing of its caller: it ends, and the answer, with what is left, is one
 -- of those that the cited type has. Each of them says its number, when it is given and what is left (BlockAnswer to CopyAnswer:
--- Answers.antt; WriteAnswer, LoadAnswer: Writing.antt; the reasons of 2 to 6: Refused, rules/proofs/LinkageLaws.antt). Of these answers
--- what a refusal leaves, and that no contract admits a second one, is handed on from where it is proved. What answer 0 leaves is demand 2's.
+-- Answers.antt; WriteAnswer, LoadAnswer: Writing.antt; the reasons of 2 to 6: Refused, rules/proofs/LinkageLaws.antt; the first fault
+-- within the class answered, at the place that the answer gives: FirstFault, rules/proofs/FirstFault.antt). Of these answers what a
+-- refusal leaves, and that no contract admits a second one, is handed on from where it is proved. What answer 0 leaves is demand 2's.
 use denote.Ref.{now}
 use Rattle.pieces.specs.Air.{air}
 use Rattle.layout.specs.Sheet.{sheet}
@@ -25,8 +26,9 @@ use Rattle.promises.proofs.Proved as Proved
 use Rattle.promises.proofs.Proved.{Promised, promised-so}
 use Rattle.promises.proofs.Answers.{BlockAnswer, RecordingAnswer, ForgetAnswer, CopyAnswer, read-block-answers, read-recording-answers, forget-key-answers, copy-out-answers}
 use Rattle.promises.proofs.Writing.{WriteAnswer, LoadAnswer, write-listing-answers, write-columns-answers, write-sheet-answers, write-air-answers, write-output-answers, load-sheet-answers}
--- what a refusal leaves: of 2 to 6 everything but the open lists, of every other everything; loading hands back the empty table
-pub use Rattle.promises.proofs.Answers.{read-block-refused, read-recording-refused, forget-key-refused, copy-out-refused}
+-- what a refusal leaves: of 2 to 6 everything but the open lists, of every other everything; loading hands back the empty table; and
+-- the place that a block's answer gives, that of the first fault within the class answered
+pub use Rattle.promises.proofs.Answers.{read-block-refused, read-block-place, read-recording-refused, forget-key-refused, copy-out-refused}
 pub use Rattle.promises.proofs.Buffers.{write-refused}
 pub use Rattle.promises.proofs.Writing.{load-sheet-refused}
 -- one answer

@@ -26,7 +26,7 @@ afterOne t (forgetting k) = forgotten k t
 -- the fields of a taken block
 unfoldable pub fieldsIn : Verdict → List (Said linkage)
 fieldsIn (taken fs) = map said fs
-fieldsIn (refused o) = []
+fieldsIn (refused o p) = []
 fieldsIn noBlock = []
 
 -- what the fields of an operation say: of a taken block, in order
