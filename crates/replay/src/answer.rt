@@ -55,6 +55,15 @@ pub(crate) fn put_number(out: &mut [u8], at: usize, number: usize) -> usize {
     put_decimal(out, p, number)
 }
 
+// The place, after an outcome that is not 0.
+pub(crate) fn put_place(out: &mut [u8], at: usize, outcome: Outcome, place: usize) -> usize {
+    if outcome_number(outcome) == 0 {
+        return at;
+    }
+    let p = put_bytes(out, at, b" @");
+    put_decimal(out, p, place)
+}
+
 // The notes' numbers.
 pub(crate) fn put_notes(out: &mut [u8], at: usize, notes: Notes) -> usize {
     let end = least(notes.count, 14);

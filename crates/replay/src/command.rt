@@ -56,11 +56,12 @@ fn answer_block(table: Table, line: &[u8], len: usize, out: &mut [u8]) -> Step {
     let notes = read.notes;
     let left = read.table;
     let p = put_head(out, b'b', outcome_number(outcome));
-    let q = answer::put_notes(out, p, notes);
+    let q = answer::put_place(out, p, outcome, read.place);
+    let r = answer::put_notes(out, q, notes);
     Step {
         table: left,
         next: Next::Go,
-        size: put(out, q, 10),
+        size: put(out, r, 10),
     }
 }
 
