@@ -13,7 +13,7 @@ sys.dont_write_bytecode = True
 
 import cases
 from folder import write_files
-from making import damaged
+from making import block_of, damaged
 from second.listing import listing
 
 HERE = os.path.dirname(os.path.abspath(__file__))
@@ -41,6 +41,12 @@ def with_damage(blocks, every):
     """Every so many blocks one arrives with a turned bit."""
     return [damaged(data, 37 * place % 256) if place % every == every - 1 else data
             for place, data in enumerate(blocks)]
+
+
+# A FIG of length 0 after one of other information; a field that does not fit, behind one that does; LSN 0 behind an empty start;
+# an empty start in a second FIG.
+FAULTY = [block_of(text) for text in (
+    "21 05 03 06 20 04 00", "07 06 20 04 E0 05 22 44", "06 06 E0 04 00 20 00", "21 05 06 06 20 05 E0 04 00")]
 
 
 def recordings():
@@ -78,6 +84,9 @@ def recordings():
          "annex-a03's sets through a day, every fifth block damaged", "000, A.3, tables A.4 to A.7", 3),
         ("annex-a07-damaged", with_damage([cases.A19, cases.A20, cases.A21] * 8, 5),
          "annex-a07 for longer, every fifth block damaged", "000, A.7, tables A.19 to A.21", 1),
+        ("annex-a07-faulty", [cases.A19, cases.A20, cases.A21] * 2 + FAULTY + [cases.A21],
+         "annex-a07, and then blocks that an encoder made wrong, with good checks: refused with 3, 4, 5 and 6",
+         "000, A.7, tables A.19 to A.21; the faults are ours", 1),
     ]
     return rows
 
