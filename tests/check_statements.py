@@ -26,7 +26,7 @@ def public_functions():
     """(crate, function) of every `pub fn`, with its type in front."""
     for crate in libraries():
         owner = ""
-        for line in (crate / "src/lib.rt").read_text().splitlines():
+        for line in "\n".join(path.read_text() for path in sorted(crate.glob("src/*.rt"))).splitlines():
             block = re.match(r"impl(?:<'a>)? (\w+)", line)
             if block or line == "}":
                 owner = block.group(1) + "::" if block else ""
