@@ -1,19 +1,23 @@
--- The laws of reading an input chunk by chunk, on plain lists. In order: bytes; the check of some block, from a place on, of two
--- lists and as it is kept; a recording of nothing, of a chunk more and at its end.
+-- The laws of reading an input chunk by chunk, on plain lists. In order: bytes; whole blocks from a place on; the check of some
+-- block, from a place on, of two lists and as it is kept; the starts without room, of two lists and how many; a recording of nothing,
+-- of a chunk more and at its end.
 use Prim.Native.Nat.{ℕ, zero, suc, _+_, _-_, _*_, _/_, _%_, _≤_, _<_}
+use native.Mathlib.Nat.{zero-add}
 use native.Mathlib.Omega.{arith}
-use mathlib.Core.Path.{_≡_, refl, sym, _∙_, ap, subst}
+use mathlib.Core.Path.{_≡_, refl, sym, _∙_, ap, ap₂}
 use mathlib.Core.Bool.{Bool, true, false, _&&_, _||_, or-assoc}
 use mathlib.Core.List.{List, [], _∷_, _++_}
 use lib.ListN.{length, getD, take, drop, length-append, length-drop}
 use lib.Seq.{length-take-le, take-append-le, drop-append-le, drop-drop}
 use lib.Dec.{eqb}
 use Rattle.io.specs.Counts.{Counts}
+use Rattle.rules.specs.declared.Note.{Note}
 use Rattle.rules.specs.Block.{checkHolds}
 use Rattle.rules.specs.Collecting.{Content, nothing}
-use Rattle.rules.specs.Outcomes.{readBlocks, readRecording, leftOver}
+use Rattle.rules.specs.Outcomes.{readBlock, readBlocks, isFull, withoutRoom, roomlessBlocks, readRecording, leftOver, roomless}
+use Rattle.rules.proofs.Basics.{bit-small}
 use Rattle.rules.proofs.TableRules.{meets-nil}
-use Rattle.rules.proofs.LinkageLaws.{recording-keeps, recording-append, left-over-append}
+use Rattle.rules.proofs.LinkageLaws.{notes-few, recording-keeps, recording-append, left-over-append}
 use Rattle.table.specs.declared.Table.{Table}
 use Rattle.table.specs.Stored.{storeTable, Given}
 use Rattle.table.proofs.GivenLaws.{given-content}
@@ -21,7 +25,7 @@ use Rattle.reading.specs.declared.Recorded.{Recorded}
 use Rattle.reading.specs.Runs.{recordedAs, unrecorded}
 use Rattle.input.specs.declared.Received.{Received}
 use Rattle.input.specs.declared.Turn.{Turn}
-use Rattle.input.specs.Reading.{someHolds, goodIn, Reading, ReadOn}
+use Rattle.input.specs.Reading.{someHolds, goodIn, Reading, ReadsMore, ReadOn}
 
 -- ---- bytes
 
@@ -35,6 +39,21 @@ bytes-append [] b p q i = q i
 bytes-append (x ∷ a) b p q zero = p 0
 bytes-append (x ∷ a) b p q (suc i) = bytes-append a b (λ j. p (suc j)) q i
 
+-- ---- whole blocks
+
+module _ (bytes : List ℕ) (at : ℕ) where
+  -- one at a place, and those after it
+  pub block-more : 32 ≤ length bytes - at → length (drop at bytes) / 32 ≡ suc (length (drop (at + 32) bytes) / 32)
+  block-more h = omega (arith, length-drop at bytes, length-drop (at + 32) bytes)
+
+  -- it has 32 bytes, as the code takes it
+  pub block-width : at + 32 - at ≡ 32
+  block-width = omega arith
+
+  -- none is left
+  pub block-none : length bytes - at < 32 → length (drop at bytes) / 32 ≡ 0
+  block-none h = omega (arith, length-drop at bytes)
+
 -- ---- the check of some block
 
 -- the test of the block at a place, as the code makes it
@@ -46,18 +65,16 @@ module _ (bytes : List ℕ) (at : ℕ) (so : goodIn (drop at bytes) ≡ goodIn b
   -- it ends where no whole block is left
   pub good-end : length bytes - at < 32 → false ≡ goodIn bytes
   unfolding goodIn someHolds
-  good-end h = let none : length (drop at bytes) / 32 ≡ 0 = omega (arith, length-drop at bytes) in rw none at so
+  good-end h = rw (block-none bytes at h) at so
 
   module _ (holds : Bool) (more : 32 ≤ length bytes - at) (tested : holds ≡ testedAt bytes at) where
     -- the block there, or those after it
     good-block : (holds || goodIn (drop (at + 32) bytes)) ≡ goodIn bytes
     unfolding goodIn someHolds
     good-block =
-        let width : at + 32 - at ≡ 32 = omega arith in
         let full : length (take 32 (drop at bytes)) ≡ 32 = length-take-le 32 (drop at bytes) (omega (arith, length-drop at bytes)) in
-        let one : length (drop at bytes) / 32 ≡ suc (length (drop (at + 32) bytes) / 32) = omega (arith, length-drop at bytes, length-drop (at + 32) bytes) in
-        let check : holds ≡ checkHolds (take 32 (drop at bytes)) = tested ∙ rw (width, full) in
-        rw check (rw (one, drop-drop 32 at bytes) at so)
+        let check : holds ≡ checkHolds (take 32 (drop at bytes)) = tested ∙ rw (block-width bytes at, full) in
+        rw check (rw (block-more bytes at more, drop-drop 32 at bytes) at so)
 
     pub good-found : holds ≡ true → true ≡ goodIn bytes
     good-found e = rw e at good-block
@@ -87,36 +104,92 @@ good-before before chunk e = rw e
 pub good-now : (before chunk r : Bool) → before ≡ false → r ≡ chunk → r ≡ (before || chunk)
 good-now before chunk r e h = rw e h
 
+-- ---- the starts without room
+
+-- whole blocks first, then the rest
+pub roomless-blocks-append : (n m k : ℕ) (t : Content) (a b : List ℕ) → n ≡ m + k → length a ≡ 32 * m
+    → roomlessBlocks n t (a ++ b) ≡ roomlessBlocks m t a + roomlessBlocks k (readBlocks m t a) b
+unfolding roomlessBlocks readBlocks
+roomless-blocks-append n zero k t [] b e l =
+    let q : n ≡ k = omega arith in
+    ap (λ (i : ℕ). roomlessBlocks i t b) q ∙ sym (zero-add (roomlessBlocks k t b))
+roomless-blocks-append n zero k t (x ∷ a) b e l = absurd (omega arith)
+roomless-blocks-append zero (suc m) k t a b e l = absurd (omega arith)
+roomless-blocks-append (suc n) (suc m) k t a b e l =
+    rw (take-append-le 32 a b (omega arith)) (rw (drop-append-le 32 a b (omega arith))
+    (omega (arith, roomless-blocks-append n m k (readBlock t (take 32 a) .left) (drop 32 a) b (omega arith) (omega (arith, length-drop 32 a)))))
+
+pub roomless-append : (t : Content) (a b : List ℕ) → length a % 32 ≡ 0 → roomless t (a ++ b) ≡ roomless t a + roomless (readRecording t a) b
+unfolding roomless readRecording
+roomless-append t a b h =
+    roomless-blocks-append (length (a ++ b) / 32) (length a / 32) (length b / 32) t a b (omega (arith, length-append a b)) (omega arith)
+
+-- a note says it or not, and a block has at most 14 notes
+without-room-few : (ns : List Note) → withoutRoom ns ≤ length ns
+unfolding withoutRoom
+without-room-few [] = omega arith
+without-room-few (n ∷ ns) = omega (arith, bit-small (isFull n), without-room-few ns)
+
+roomless-blocks-few : (n : ℕ) (t : Content) (bytes : List ℕ) → roomlessBlocks n t bytes ≤ 14 * n
+unfolding roomlessBlocks
+roomless-blocks-few zero t bytes = omega arith
+roomless-blocks-few (suc n) t bytes =
+    let a = readBlock t (take 32 bytes) in
+    omega (arith, without-room-few (a .notes), notes-few t (take 32 bytes), roomless-blocks-few n (a .left) (drop 32 bytes))
+
+-- fewer than there are bytes
+pub roomless-few : (t : Content) (bytes : List ℕ) → roomless t bytes ≤ length bytes
+unfolding roomless
+roomless-few t bytes = omega (arith, roomless-blocks-few (length bytes / 32) t bytes)
+
 -- ---- a recording
 
 -- nothing read yet
-pub reading-nothing : (t : Table) → t ≡ storeTable nothing → Reading (record { table = t; rest = 0; size = 0; good = false; failed = false })
-unfolding readRecording readBlocks leftOver goodIn someHolds
-reading-nothing t e = record { bytes = []; each = λ i. omega arith; size = refl; table = e; rest = refl; good = refl }
+pub reading-nothing : (t : Table) → t ≡ storeTable nothing
+    → Reading (record { table = t; rest = 0; full = 0; size = 0; good = false; failed = false })
+unfolding readRecording readBlocks leftOver roomless roomlessBlocks goodIn someHolds
+reading-nothing t e = record { bytes = []; each = λ i. omega arith; size = refl; table = e; rest = refl; full = refl; good = refl }
 
--- a chunk after whole blocks
-pub reading-chunk : (before : Received) (chunk : List ℕ) (read : Recorded) (good failed : Bool) → Reading before → before .size % 32 ≡ 0
-    → ((i : ℕ) → getD chunk i 0 < 256) → Given (before .table) (λ c. read ≡ recordedAs c chunk) (read ≡ unrecorded (before .table))
-    → good ≡ (before .good || goodIn chunk)
-    → Reading (record { table = read .table; rest = read .rest; size = before .size + length chunk; good = good; failed = failed })
-unfolding recordedAs
-reading-chunk before chunk read good failed r even each given g =
-    let a = r .bytes in
-    let whole : length a % 32 ≡ 0 = omega (arith, r .size) in
-    let left = given-content (readRecording nothing a) (recording-keeps nothing a (r .each) meets-nil) (r .table) given in
-    record {
-      bytes = a ++ chunk;
-      each = bytes-append a chunk (r .each) each;
-      size = omega (arith, r .size, length-append a chunk);
-      table = ap (λ (x : Recorded). x .table) left ∙ ap (λ (c : Content). storeTable c) (sym (recording-append nothing a chunk whole));
-      rest = ap (λ (x : Recorded). x .rest) left ∙ sym (left-over-append a chunk whole);
-      good = g ∙ ap (λ (b : Bool). b || goodIn chunk) (r .good) ∙ sym (good-append a chunk whole);
-    }
+-- a chunk read after bytes
+module _ (before : Received) (chunk : List ℕ) (read : Recorded)
+    (given : Given (before .table) (λ c. read ≡ recordedAs c chunk) (read ≡ unrecorded (before .table))) where
+  chunk-read : (r : Reading before) → read ≡ recordedAs (readRecording nothing (r .bytes)) chunk
+  chunk-read r = given-content (readRecording nothing (r .bytes)) (recording-keeps nothing (r .bytes) (r .each) meets-nil) (r .table) given
+
+  -- no more starts without room than there are bytes
+  pub full-within : Reading before → before .full + read .full ≤ before .size + length chunk
+  unfolding recordedAs
+  full-within r =
+      let now = ap (λ (x : Recorded). x .full) (chunk-read r) in
+      omega (arith, r .size, r .full, now, roomless-few nothing (r .bytes), roomless-few (readRecording nothing (r .bytes)) chunk)
+
+  -- whole blocks and then the chunk
+  pub reading-chunk : (good failed : Bool) → before .size % 32 ≡ 0 → ((i : ℕ) → getD chunk i 0 < 256) → good ≡ (before .good || goodIn chunk)
+      → ReadsMore before chunk
+      (record { table = read .table; rest = read .rest; full = before .full + read .full; size = before .size + length chunk; good = good; failed = failed })
+  unfolding ReadsMore recordedAs
+  reading-chunk good failed even each g r =
+      let a = r .bytes in
+      let left = chunk-read r in
+      let whole : length a % 32 ≡ 0 = omega (arith, r .size) in (
+        record {
+          bytes = a ++ chunk;
+          each = bytes-append a chunk (r .each) each;
+          size = omega (arith, r .size, length-append a chunk);
+          table = ap (λ (x : Recorded). x .table) left ∙ ap (λ (c : Content). storeTable c) (sym (recording-append nothing a chunk whole));
+          rest = ap (λ (x : Recorded). x .rest) left ∙ sym (left-over-append a chunk whole);
+          full = ap₂ _+_ (r .full) (ap (λ (x : Recorded). x .full) left) ∙ sym (roomless-append nothing a chunk whole);
+          good = g ∙ ap (λ (b : Bool). b || goodIn chunk) (r .good) ∙ sym (good-append a chunk whole);
+        },
+        refl,
+      )
 
 -- that the reading failed after these bytes changes nothing of them
-pub reading-failed : (r : Received) (failed : Bool) → Reading r
-    → Reading (record { table = r .table; rest = r .rest; size = r .size; good = r .good; failed = failed })
-reading-failed r failed h = record { bytes = h .bytes; each = h .each; size = h .size; table = h .table; rest = h .rest; good = h .good }
+abbrev pub withFailed : Received → Bool → Received
+withFailed r failed = record { table = r .table; rest = r .rest; full = r .full; size = r .size; good = r .good; failed = failed }
+
+unfoldable pub reading-failed : (r : Received) (failed : Bool) → Reading r → Reading (withFailed r failed)
+reading-failed r failed h = record { bytes = h .bytes; each = h .each; size = h .size; table = h .table; rest = h .rest; full = h .full; good = h .good }
 
 -- a larger bound
 pub within-more : (t : Turn) (m n : ℕ) → ReadOn t m → m ≤ n → ReadOn t n

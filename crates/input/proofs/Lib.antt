@@ -1,2 +1,3 @@
 -- The laws above the definitions of specs/.
 pub mod Laws
+pub mod CheckLaws

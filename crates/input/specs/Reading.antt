@@ -2,11 +2,11 @@
 use Prim.Native.Nat.{ℕ, zero, suc, _/_, _%_, _≤_, _<_}
 use mathlib.Core.Path.{_≡_}
 use mathlib.Core.Bool.{Bool, true, false, _||_}
-use mathlib.Core.List.{List}
+use mathlib.Core.List.{List, _++_}
 use lib.ListN.{length, getD, take, drop}
 use Rattle.rules.specs.Block.{checkHolds}
 use Rattle.rules.specs.Collecting.{nothing}
-use Rattle.rules.specs.Outcomes.{readRecording, leftOver}
+use Rattle.rules.specs.Outcomes.{readRecording, leftOver, roomless}
 use Rattle.table.specs.Stored.{storeTable}
 use Rattle.sheet.specs.Loading.{Loads}
 use Rattle.input.specs.declared.Received.{Received}
@@ -23,16 +23,21 @@ unfoldable pub goodIn : List ℕ → Bool
 goodIn bytes = someHolds (length bytes / 32) bytes
 
 -- as a recording, into a table that holds nothing: so many bytes, the table that they leave, the bytes after the last whole
--- block, and whether the check of some block holds
+-- block, the starts that found no room, and whether the check of some block holds
 pub record Reading (r : Received) : Type 0 where
   pub bytes : List ℕ
   pub each : (i : ℕ) → getD bytes i 0 < 256
   pub size : r .size ≡ length bytes
   pub table : r .table ≡ storeTable (readRecording nothing bytes)
   pub rest : r .rest ≡ leftOver bytes
+  pub full : r .full ≡ roomless nothing bytes
   pub good : r .good ≡ goodIn bytes
 
--- the same with the input not yet at its end: it goes on at the start of a block
+-- one chunk more: of whatever bytes the state before was the reading, this is the reading of those with the chunk behind them
+unfoldable pub ReadsMore : Received → List ℕ → Received → Type 0
+ReadsMore before chunk r = (a : Reading before) → (b : Reading r) × (b .bytes ≡ a .bytes ++ chunk)
+
+-- a reading with the input not yet at its end: it goes on at the start of a block
 pub record ReadOn (t : Turn) (most : ℕ) : Type 0 where
   pub read : Reading (t .received)
   pub even : t .more ≡ true → t .received .size % 32 ≡ 0

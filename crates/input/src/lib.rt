@@ -5,7 +5,12 @@ ghost use mathlib.Core.Path.{_≡_};
 ghost use Prim.Native.Nat.{_+_, _≤_, _%_};
 ghost use lib.ListN.{length};
 ghost use Rattle.io.specs.Counts.{Counts};
-ghost use Rattle.input.specs.Reading.{goodIn, Reading, ReadOn, Loading};
+ghost use Rattle.input.specs.Reading.{goodIn, Reading, ReadsMore, ReadOn, Loading};
+
+mod checking;
+
+pub use checking::Checked;
+pub use checking::check_recording;
 use libc::STDERR_FILENO;
 use sheet::Loaded;
 use table::Table;
@@ -13,18 +18,18 @@ use table::Table;
 // ---- bytes
 
 // How many bytes stand at the front of a buffer, and whether the read after them failed. Where it did not, the buffer is
-// full or the input has ended.
+// full, the input has ended or the blocks that come next are there.
 pub struct Filled {
     pub size: usize,
     pub failed: bool,
 }
 
-// Reads until the buffer is full, the input ends or a read fails.
-pub fn fill(input: i32, buffer: &mut [u8]) -> Filled
+// Reads until the buffer is full, the input ends or a read fails; with `eager`, until whole blocks are there and no more.
+fn fill_up(input: i32, buffer: &mut [u8], eager: bool) -> Filled
     ensures { λ r. ⌜ Counts (r .size) (now (buffer .exit)) ⌝ }
 {
     let mut n: usize = 0;
-    while n < buffer.len() {
+    while n < buffer.len() && !(eager && 0 < n && n % 32 == 0) {
         let got = libc::read(input, &mut buffer[n..]);
         let more = io::count(got, &buffer[n..]);
         if more == 0 {
@@ -39,6 +44,21 @@ pub fn fill(input: i32, buffer: &mut [u8]) -> Filled
         size: n,
         failed: false,
     }
+}
+
+// Reads until the buffer is full, the input ends or a read fails.
+pub fn fill(input: i32, buffer: &mut [u8]) -> Filled
+    ensures { λ r. ⌜ Counts (r .size) (now (buffer .exit)) ⌝ }
+{
+    fill_up(input, buffer, false)
+}
+
+// Reads the blocks that come next, as soon as they are there: where no read fails, the buffer then begins with whole blocks, or the
+// input has ended.
+pub fn next_blocks(input: i32, buffer: &mut [u8]) -> Filled
+    ensures { λ r. ⌜ Counts (r .size) (now (buffer .exit)) ⌝ }
+{
+    fill_up(input, buffer, true)
 }
 
 // ---- a recording
@@ -58,30 +78,33 @@ pub fn some_holds(bytes: &[u8]) -> bool
     false
 }
 
-// What a recording left: the table, which meets the rules, the bytes after its last whole block, how many bytes there were,
-// whether the check of some block held, and whether a read failed: then this is of a part of the recording only.
+// What a recording left: the table, which meets the rules, the bytes after its last whole block, how many of its starts found no
+// room, how many bytes there were, whether the check of some block held, and whether a read failed: then this is of a part of the
+// recording only.
 pub struct Received {
     pub table: Table,
     pub rest: usize,
+    pub full: usize,
     pub size: usize,
     pub good: bool,
     pub failed: bool,
 }
 
 // That, and whether the input may go on.
-struct Turn {
-    received: Received,
-    more: bool,
+pub(crate) struct Turn {
+    pub(crate) received: Received,
+    pub(crate) more: bool,
 }
 
 // Nothing received yet.
-fn nothing() -> Turn
+pub(crate) fn nothing() -> Turn
     ensures { λ r. ⌜ ReadOn r 0 ⌝ }
 {
     let table = Table::empty();
     let received = Received {
         table,
         rest: 0,
+        full: 0,
         size: 0,
         good: false,
         failed: false,
@@ -93,21 +116,23 @@ fn nothing() -> Turn
 }
 
 // A chunk of bytes after what was received.
-fn with_chunk(before: Received, chunk: &[u8], failed: bool) -> Received
+pub(crate) fn with_chunk(before: Received, chunk: &[u8], failed: bool) -> Received
     requires { ⌜ Reading before ⌝ }
     requires { ⌜ before .size % 32 ≡ 0 ⌝ }
     requires { ⌜ before .size + length (now chunk) ≤ 9223372036854775808 ⌝ }
-    ensures { λ r. ⌜ Reading r ⌝ }
+    ensures { λ r. ⌜ ReadsMore before (now (chunk .entry)) r ⌝ }
     ensures { λ r. ⌜ r .size ≡ before .size + length (now (chunk .entry)) ⌝ }
 {
     let table = before.table;
     let read = reading::read_recording(table, chunk);
     let left = read.table;
     let size = before.size + chunk.len();
+    let full = before.full + read.full;
     let good = before.good || some_holds(chunk);
     Received {
         table: left,
         rest: read.rest,
+        full,
         size,
         good,
         failed,

@@ -21,6 +21,7 @@ use source::Source;
 use target::Target;
 use words::Action;
 use words::Options;
+use work::use_check;
 use work::use_figs;
 use work::use_recording;
 use work::use_sheet;
@@ -65,6 +66,7 @@ fn carry_out(
     let asked = asked_for(action, options);
     match action {
         Action::Figs => use_figs(source, name),
+        Action::Check => use_check(source, name),
         Action::Show => use_sheet(asked, source, name, target, path),
         Action::Air => use_sheet(asked, source, name, target, path),
         _ => use_recording(asked, source, name, target, path),
@@ -77,6 +79,7 @@ fn reads_recording(action: Action) -> bool {
         Action::List => true,
         Action::Sheet => true,
         Action::Figs => true,
+        Action::Check => true,
         _ => false,
     }
 }

@@ -10,6 +10,7 @@ pub(crate) enum Action {
     Show,
     Air,
     Figs,
+    Check,
     Help,
     Unknown,
 }
@@ -60,6 +61,9 @@ pub(crate) fn action_of(word: &[u8]) -> Action {
     }
     if same(word, b"figs") {
         return Action::Figs;
+    }
+    if same(word, b"check") {
+        return Action::Check;
     }
     if same(word, b"help") {
         return Action::Help;

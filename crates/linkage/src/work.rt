@@ -164,14 +164,13 @@ pub(crate) fn use_sheet(
     hand_over(asked, table, 0, target, path)
 }
 
-// The FIGs of a recording, listed while it is read.
-pub(crate) fn use_figs(source: Source, name: &[u8]) -> bool {
-    let listed = figs_text::list_figs(source.fd);
-    if !listed.written {
+// How a text ends that is written while a recording is read: whether all of it was, and what is worth knowing beside it.
+fn end_text(written: bool, failed: bool, name: &[u8], size: usize, good: bool) -> bool {
+    if !written {
         say_failed(b"cannot write to standard output", b"");
         return false;
     }
-    if listed.failed {
+    if failed {
         say_failed(b"cannot read ", name);
         return false;
     }
@@ -179,6 +178,31 @@ pub(crate) fn use_figs(source: Source, name: &[u8]) -> bool {
         say_failed(b"cannot write to standard output", b"");
         return false;
     }
-    remark_blocks(listed.size, listed.good);
+    remark_blocks(size, good);
     true
+}
+
+// The FIGs of a recording, listed while it is read.
+pub(crate) fn use_figs(source: Source, name: &[u8]) -> bool {
+    let listed = figs_text::list_figs(source.fd);
+    end_text(
+        listed.written,
+        listed.failed,
+        name,
+        listed.size,
+        listed.good,
+    )
+}
+
+// The refused blocks of a recording, told while it is read, and its counts.
+pub(crate) fn use_check(source: Source, name: &[u8]) -> bool {
+    let checked = input::check_recording(source.fd, STDOUT_FILENO);
+    let received = checked.received;
+    end_text(
+        checked.written,
+        received.failed,
+        name,
+        received.size,
+        received.good,
+    )
 }

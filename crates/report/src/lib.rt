@@ -6,8 +6,11 @@ use out::put;
 use out::put_bytes;
 use out::put_decimal;
 use rules::Outcome;
+ghost use Rattle.rules.specs.Block.{bit};
+ghost use Rattle.rules.specs.Outcomes.{verdict};
 ghost use Rattle.out.specs.Put.{Puts};
-ghost use Rattle.report.specs.Report.{wordsOf, placeText, refusalLine, countLine, countsText};
+ghost use Rattle.report.specs.Report.{wordsOf, placeText, refusalLine, blockLine, isRefused, countLine, countsText};
+ghost use Rattle.report.specs.Telling.{Tells};
 
 // ---- the line of a refused block
 
@@ -57,6 +60,32 @@ pub fn put_refusal(out: &mut [u8], at: usize, block: usize, outcome: Outcome, pl
     let f = put_bytes(out, e, b", ");
     let g = put_words(out, f, n);
     put(out, g, 10)
+}
+
+// ---- the lines of blocks
+
+// What was put of some blocks: the place after their lines, and how many of them are refused.
+pub struct Told {
+    pub next: usize,
+    pub refused: usize,
+}
+
+// The line of a block at a place, if it is refused.
+pub fn put_block(out: &mut [u8], at: usize, block: usize, fib: &[u8]) -> Told
+    ensures { λ r. ⌜ Tells (now (out .entry)) at (blockLine block (verdict (now (fib .entry)))) (bit (isRefused (verdict (now (fib .entry))))) (now (out .exit)) r ⌝ }
+{
+    let judged = block::judge(fib);
+    let outcome = judged.outcome;
+    if outcome_number(outcome) < 2 {
+        return Told {
+            next: least(at, out.len()),
+            refused: 0,
+        };
+    }
+    Told {
+        next: put_refusal(out, at, block, outcome, judged.place),
+        refused: 1,
+    }
 }
 
 // ---- the counts

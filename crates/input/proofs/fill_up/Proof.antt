@@ -1,4 +1,4 @@
--- `input::fill` meets its contract: what was read never goes past the buffer, which keeps its length. The measure is the room that
+-- `input::fill_up` meets its contract: what was read never goes past the buffer, which keeps its length. The measure is the room that
 -- is left, and a read that brings nothing ends the loop.
 use Prim.Native.Nat.{_≤_, _-_}
 use native.Mathlib.Omega.{arith}
@@ -6,14 +6,14 @@ use mathlib.Core.Path.{_≡_}
 use lib.ListN.{length}
 use borrow.Author.Needs.{needs}
 use Rattle.input.proofs.Laws.{counts-front}
-use Rattle.input.proofs.fill.Statement.{statement}
-use Rattle.input.proofs.fill.Tie as tie
+use Rattle.input.proofs.fill_up.Statement.{statement}
+use Rattle.input.proofs.fill_up.Tie as tie
 
 abbrev Inv-loop : tie.InvT-loop
-Inv-loop input buffer₀ n₀ buffer n = (n ≤ length buffer) × (length buffer ≡ length buffer₀)
+Inv-loop input buffer₀ eager n₀ buffer n = (n ≤ length buffer) × (length buffer ≡ length buffer₀)
 
 abbrev μ-loop : tie.MeasureT-loop
-μ-loop input buffer₀ n₀ buffer n = length buffer - n
+μ-loop input buffer₀ eager n₀ buffer n = length buffer - n
 
 loop-holds : tie.Need-loop-holds Inv-loop μ-loop
 loop-holds c = search needs
@@ -61,10 +61,16 @@ same-length-2 : tie.Need-same-length-2 Inv-loop μ-loop
 same-length-2 c = search needs
 
 returns-2 : tie.Need-returns-2 Inv-loop μ-loop
-returns-2 c = counts-front _ _ (c .before .loop .inv .0)
+returns-2 c = counts-front _ _ (c .before .before .before .before .loop .inv .0)
 
-pub fill-spec : {M : Type 1} → statement M
-fill-spec =
+same-length-3 : tie.Need-same-length-3 Inv-loop μ-loop
+same-length-3 c = search needs
+
+returns-3 : tie.Need-returns-3 Inv-loop μ-loop
+returns-3 c = counts-front _ _ (c .before .loop .inv .0)
+
+pub fill-up-spec : {M : Type 1} → statement M
+fill-up-spec =
     tie.close
     (tie.spec
     Inv-loop
@@ -84,4 +90,6 @@ fill-spec =
     loop-less
     loop-again
     same-length-2
-    returns-2)
+    returns-2
+    same-length-3
+    returns-3)

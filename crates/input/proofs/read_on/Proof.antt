@@ -2,6 +2,7 @@
 use native.Mathlib.Omega.{arith}
 use borrow.Author.Tests.{eqb-true}
 use borrow.Author.Needs.{needs}
+use Rattle.input.specs.Reading.{ReadsMore}
 use Rattle.input.proofs.read_on.Statement.{statement}
 use Rattle.input.proofs.read_on.Tie as tie
 
@@ -21,9 +22,10 @@ with-chunk-requires : tie.Need-with-chunk-requires
 with-chunk-requires c κs = search needs
 
 returns : tie.Need-returns
+unfolding ReadsMore
 returns c =
     record {
-      read = c .with-chunk .ensures .0;
+      read = c .with-chunk .ensures .0 (c .before .before .before .before .before .pre .0) .0;
       even = λ e. omega (arith, eqb-true);
       within = omega arith;
     }
