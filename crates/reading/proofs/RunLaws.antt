@@ -306,7 +306,7 @@ module _ (bytes : List ℕ) (t₀ : Table) (t : Sets) (reply : Reply) (spots : S
         G .first-meets,
         G .first-stored,
         (λ j. record { reply = record { outcome = reply .outcome; place = reply .place; full = reply .full; notes = G .notes-are j }; table = (q ∙ ap tableOf (G .stored)) j })
-        ∙ ap ranAs (sym whole),
+            ∙ ap ranAs (sym whole),
       )
 
 -- ---- one block, and a whole recording
