@@ -4,7 +4,7 @@ use Prim.Native.Nat.{ℕ, _+_, _-_, _/_, _%_, _≤_, _<_}
 use native.Mathlib.Nat.{zero-add}
 use native.Mathlib.Omega.{arith}
 use mathlib.Core.Path.{_≡_, sym, _∙_, ap, ap₂}
-use mathlib.Core.Bool.{Bool, true}
+use mathlib.Core.Bool.{Bool, true, false}
 use mathlib.Core.List.{List, [], _++_}
 use lib.ListN.{length, take, drop, length-append, length-drop}
 use lib.Seq.{take-at, drop-drop}
@@ -119,12 +119,12 @@ chunk-follows before chunk text r even e =
     }
 
 -- at the end: the counts of all that was read
-pub counts-end : (r : Checked) (text : List ℕ) → Checking r
+pub counts-end : (r : Checked) (text : List ℕ) → Checking r → (r .received .failed ≡ false) × (r .written ≡ true)
     → text ≡ countsText (r .received .size / 32) (r .refused) (r .received .full) (r .received .rest) → Ends r text
 unfolding report
-counts-end r text c e =
+counts-end r text c s e =
     let a = c .read in
-    record { read = c; whole = ap (λ (x : List ℕ). linesOf (length (a .bytes) / 32) 0 (a .bytes) ++ x) (e ∙ rw (a .size, c .refused, a .full, a .rest)) }
+    record { read = c; to-its-end = s .0; lines-written = s .1; whole = ap (λ (x : List ℕ). linesOf (length (a .bytes) / 32) 0 (a .bytes) ++ x) (e ∙ rw (a .size, c .refused, a .full, a .rest)) }
 
 -- ---- a recording
 

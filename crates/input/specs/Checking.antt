@@ -1,7 +1,7 @@
 -- What a recording was checked as: there are bytes of which this is the reading, and the report.
 use Prim.Native.Nat.{ℕ, _/_, _%_, _≤_}
 use mathlib.Core.Path.{_≡_}
-use mathlib.Core.Bool.{true}
+use mathlib.Core.Bool.{true, false}
 use mathlib.Core.List.{List, _++_}
 use lib.ListN.{length}
 use Rattle.report.specs.Report.{linesOf, refusedOf, report}
@@ -26,7 +26,10 @@ pub record Follows (before : Received) (chunk text : List ℕ) : Type 0 where
   pub read : Reading before
   pub whole : linesOf (length (read .bytes) / 32) 0 (read .bytes) ++ text ≡ linesOf (length (read .bytes ++ chunk) / 32) 0 (read .bytes ++ chunk)
 
--- what is left to tell: with the lines of all blocks before it, this text is the report of what was read
+-- what is left to tell where no read failed and all lines were written: with the lines of all blocks before it, this text is the report of
+-- what was read
 pub record Ends (r : Checked) (text : List ℕ) : Type 0 where
   pub read : Checking r
+  pub to-its-end : r .received .failed ≡ false
+  pub lines-written : r .written ≡ true
   pub whole : linesOf (length (read .read .bytes) / 32) 0 (read .read .bytes) ++ text ≡ report (read .read .bytes)

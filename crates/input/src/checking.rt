@@ -2,6 +2,7 @@
 // counts at the end. What is handed to the system to be written is proved to be the lines of the blocks that were just read, numbered
 // after those before them, and at the end the counts of all that was read (specs/Checking.antt).
 ghost use mathlib.Core.Path.{_≡_};
+ghost use mathlib.Core.Bool.{true, false};
 ghost use Prim.Native.Nat.{_+_, _/_, _%_, _≤_, _<_};
 ghost use lib.ListN.{length};
 ghost use Rattle.report.specs.Report.{linesOf, refusedOf};
@@ -82,16 +83,17 @@ fn tell_blocks(output: i32, before: Received, chunk: &[u8]) -> Spoken
 
 // ---- the counts
 
-// Writes the end of a report. Its caller shows that it is that of all that was read.
+// Writes the end of a report. Its caller shows that it is that of all that was read, to the input's end and with all lines written.
 fn write_end(output: i32, checked: Checked, text: &[u8]) -> bool
     requires { ⌜ Ends checked (now text) ⌝ }
 {
     io::write_all(output, text)
 }
 
-// The counts of what was checked, written.
+// The counts of what was checked to its end, written.
 fn tell_counts(output: i32, checked: Checked) -> bool
     requires { ⌜ Checking checked ⌝ }
+    requires { ⌜ (checked .received .failed ≡ false) × (checked .written ≡ true) ⌝ }
 {
     let mut text = [0u8; 160];
     let blocks = checked.received.size / 32;

@@ -2,7 +2,7 @@
 -- blocks refused, at most 32 KiB for each turn done. The measure is the number of turns left.
 use Prim.Native.Nat.{_*_, _-_, _≤_}
 use native.Mathlib.Omega.{arith}
-use borrow.Author.Tests.{ltb-true}
+use borrow.Author.Tests.{ltb-true, not-true}
 use borrow.Author.Needs.{needs}
 use Rattle.input.specs.Checking.{CheckedOn}
 use Rattle.input.proofs.CheckLaws.{checking-failed, checking-written, checked-more}
@@ -39,7 +39,7 @@ returns : tie.Need-returns Inv-loop μ-loop
 returns c = checking-failed _ _ (c .before .before .before .before .loop .inv .1 .read)
 
 tell-counts-requires : tie.Need-tell-counts-requires Inv-loop μ-loop
-tell-counts-requires c κs = c .before .before .before .before .before .before .loop .inv .1 .read
+tell-counts-requires c κs = (c .before .before .before .before .before .before .loop .inv .1 .read, (not-true _ (c .if4 .taken), c .before .before .if3 .taken))
 
 returns-2 : tie.Need-returns-2 Inv-loop μ-loop
 returns-2 c = checking-written _ _ (c .before .before .before .before .before .before .before .loop .inv .1 .read)

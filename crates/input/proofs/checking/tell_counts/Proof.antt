@@ -21,7 +21,8 @@ front-requires c κs = tt
 
 write-end-requires : tie.Need-write-end-requires
 write-end-requires c κs =
-    counts-end _ _ (c .before .before .before .before .before .before .pre) (c .front .ensures ∙ puts-front (c .before .before .before .put-counts .ensures) (counts-short _ _ _ _))
+    let given = c .before .before .before .before .before .before .pre in
+    counts-end _ _ (given .0) (given .1) (c .front .ensures ∙ puts-front (c .before .before .before .put-counts .ensures) (counts-short _ _ _ _))
 
 returns : tie.Need-returns
 returns c = tt
