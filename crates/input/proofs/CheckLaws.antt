@@ -1,5 +1,5 @@
--- The laws of telling a recording block by block, on plain lists. In order: the blocks from a place on, and telling them; a text at
--- the front of a buffer; what is told of a chunk and at the end; a recording that is checked: nothing of it, a chunk more, its end.
+-- The laws of telling a recording block by block, on plain lists. In order: the blocks from a place on, and telling them; what is told
+-- of a chunk and at the end; a recording that is checked: nothing of it, a chunk more, its end.
 use Prim.Native.Nat.{ℕ, _+_, _-_, _/_, _%_, _≤_, _<_}
 use native.Mathlib.Nat.{zero-add}
 use native.Mathlib.Omega.{arith}
@@ -7,12 +7,10 @@ use mathlib.Core.Path.{_≡_, sym, _∙_, ap, ap₂}
 use mathlib.Core.Bool.{Bool, true, false}
 use mathlib.Core.List.{List, [], _++_}
 use lib.ListN.{length, take, drop, length-append, length-drop}
-use lib.Seq.{take-at, drop-drop}
+use lib.Seq.{drop-drop}
 use Rattle.rules.specs.Block.{bit}
 use Rattle.rules.specs.Outcomes.{verdict}
-use Rattle.out.specs.Put.{Puts}
 use Rattle.out.proofs.Runs.{Going, going-start, going-on, going-end}
-use Rattle.out.proofs.Answers.{sets-front}
 use Rattle.report.specs.declared.Told.{Told}
 use Rattle.report.specs.Report.{blockLine, linesOf, isRefused, refusedOf, countsText, report}
 use Rattle.report.specs.Telling.{Tells}
@@ -90,15 +88,6 @@ module _ {old : List ℕ} {before : ℕ} {bytes out : List ℕ} {next refused at
         puts = going-end (lines-end before bytes at last) (t .going);
         refused-are = omega (arith, t .all, refused-end bytes at last);
       }
-
--- ---- a text at the front of a buffer
-
--- one that fits is all that stands there
-pub puts-front : {old text new : List ℕ} {n : ℕ} → Puts old 0 text new n → length text ≤ length old → take n new ≡ text
-puts-front {old} {text} {new} {n} p h =
-    let size : length text ≡ n = omega (arith, p .after) in
-    let whole : new ≡ text ++ drop (length text) old = p .stored ∙ sets-front text old h in
-    rw whole (take-at text (drop (length text) old) n size)
 
 -- ---- what is told
 

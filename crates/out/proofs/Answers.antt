@@ -27,6 +27,13 @@ use Rattle.out.specs.Answer.{writtenAs, Outputs}
 pub sets-front : (us l : List ℕ) → length us ≤ length l → sets l 0 us ≡ us ++ drop (length us) l
 sets-front us l h = sets-eq us l 0 (omega arith) ∙ ap (λ (k : ℕ). us ++ drop k l) (zero-add (length us))
 
+-- and is all that stands there
+pub puts-front : {old text new : List ℕ} {n : ℕ} → Puts old 0 text new n → length text ≤ length old → take n new ≡ text
+puts-front {old} {text} {new} {n} p h =
+    let size : length text ≡ n = omega (arith, p .after) in
+    let whole : new ≡ text ++ drop (length text) old = p .stored ∙ sets-front text old h in
+    rw whole (take-at text (drop (length text) old) n size)
+
 pub written-short : (us l : List ℕ) → length l < length us → writtenAs (record { outcome = ShortBuffer; size = 0 }) l ≡ writtenTo us l
 unfolding writtenAs writtenTo
 written-short us l h = rw (lt-ltb (length l) (length us) h)

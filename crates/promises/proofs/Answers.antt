@@ -2,6 +2,7 @@
 -- a recording, forgetting, copying out; of each the answers that there are (a data type with a constructor for each kind of
 -- answer: when it is given, its number, and what is left), that there are no others, and what a refusal leaves.
 use Prim.Native.Nat.{ℕ, _%_, _≤_, _<_}
+use native.Mathlib.Omega.{arith}
 use mathlib.Core.Path.{_≡_, refl, sym, ap, _∙_, subst}
 use mathlib.Core.Bool.{true, false, _||_}
 use mathlib.Core.List.{List, [], _∷_}
@@ -18,8 +19,8 @@ use Rattle.rules.specs.Collecting.{linkage, IdSet, Held, Entries, Content, with
 use Rattle.rules.specs.Outcomes as Outcomes
 use Rattle.rules.specs.Outcomes.{numberOf, taken, verdict, leftOver, roomless, heldOr, forgetOutcome, forgotten, copySet, copyHeld, copyOut, notCopied}
 use Rattle.rules.proofs.Basics.{cases-bool, cases-option, none-some, or-cases, or-false-left, or-false-right}
-use Rattle.rules.proofs.LinkageLaws.{cases-verdict, answer-taken, answer-refused, no-block, notes-fields, Refused, Refusal, full-refusal, refused-full}
-use Rattle.rules.proofs.FirstFault.{FirstFault, first-fault-in-class}
+use Rattle.rules.proofs.LinkageLaws.{cases-verdict, answer-taken, answer-refused, no-block, notes-fields, Refused, Refusal, full-refusal, refused-full, refused-numbers}
+use Rattle.rules.proofs.FirstFault.{FirstFault, ofCheck, ofFig, ofField, ofValue, ofStart, first-fault-in-class}
 use Rattle.rules.proofs.TableRules.{table-rules}
 use Rattle.lists.specs.Stored.{emptyList}
 use Rattle.table.specs.declared.Table.{Table}
@@ -93,13 +94,31 @@ read-block-refused t fib r (notABlock s l o p n e) h = inl e
 read-block-refused t fib r (refusedBlock s l w f n d) h = inr (w, d)
 read-block-refused t fib r (wrongTable s o p n e) h = inl e
 
--- the first fault within the class answered: what stands at the place of a refused block is at fault, and nothing of that class
--- before it is; for 0, 1 and 9 the place is 0
-pub read-block-place : (t : Table) (fib : List ℕ) (r : Answer) → BlockAnswer t fib r → FirstFault fib (numberOf (r .outcome)) (r .place) ⊎ (r .place ≡ 0)
-read-block-place t fib r (done s fs e o p n) = inr p
-read-block-place t fib r (notABlock s l o p n e) = inr p
-read-block-place t fib r (refusedBlock s l w f n d) = inl f
-read-block-place t fib r (wrongTable s o p n e) = inr p
+-- the first fault within the class answered: what stands at the place of a block that is refused with 2 to 6 is at fault, and nothing of
+-- that class before it is
+pub read-block-place : (t : Table) (fib : List ℕ) (r : Answer) → BlockAnswer t fib r → 2 ≤ numberOf (r .outcome) → numberOf (r .outcome) ≤ 6
+    → FirstFault fib (numberOf (r .outcome)) (r .place)
+read-block-place t fib r (done s fs e o p n) l h = absurd (omega arith)
+read-block-place t fib r (notABlock s k o p n e) l h = absurd (omega arith)
+read-block-place t fib r (refusedBlock s k w f n d) l h = f
+read-block-place t fib r (wrongTable s o p n e) l h = absurd (omega arith)
+
+-- a failing check has no place
+check-place : {fib : List ℕ} {n p : ℕ} → FirstFault fib n p → n < 3 → p ≡ 0
+check-place (ofCheck h) l = refl
+check-place (ofFig p b) l = absurd (omega arith)
+check-place (ofField gs g p b) l = absurd (omega arith)
+check-place (ofValue gs g fs e p b) l = absurd (omega arith)
+check-place (ofStart gs g fs e v p b) l = absurd (omega arith)
+
+-- for 0, 1, 2 and 9 the place is 0
+pub read-block-no-place : (t : Table) (fib : List ℕ) (r : Answer) → BlockAnswer t fib r → (numberOf (r .outcome) < 3) ⊎ (numberOf (r .outcome) ≡ 9)
+    → r .place ≡ 0
+read-block-no-place t fib r (done s fs e o p n) h = p
+read-block-no-place t fib r (notABlock s k o p n e) h = p
+read-block-no-place t fib r (refusedBlock s k w f n d) (inl h) = check-place f h
+read-block-no-place t fib r (refusedBlock s k w f n d) (inr h) = absurd (omega (arith, refused-numbers w))
+read-block-no-place t fib r (wrongTable s o p n e) h = p
 
 -- ---- a recording: 0 or 9
 

@@ -27,8 +27,8 @@ use Rattle.promises.proofs.Proved.{Promised, promised-so}
 use Rattle.promises.proofs.Answers.{BlockAnswer, RecordingAnswer, ForgetAnswer, CopyAnswer, read-block-answers, read-recording-answers, forget-key-answers, copy-out-answers}
 use Rattle.promises.proofs.Writing.{WriteAnswer, LoadAnswer, write-listing-answers, write-columns-answers, write-sheet-answers, write-air-answers, write-output-answers, load-sheet-answers}
 -- what a refusal leaves: of 2 to 6 everything but the open lists, of every other everything; loading hands back the empty table; and
--- the place that a block's answer gives, that of the first fault within the class answered
-pub use Rattle.promises.proofs.Answers.{read-block-refused, read-block-place, read-recording-refused, forget-key-refused, copy-out-refused}
+-- the place that a block's answer gives: that of the first fault within the class answered, or 0
+pub use Rattle.promises.proofs.Answers.{read-block-refused, read-block-place, read-block-no-place, read-recording-refused, forget-key-refused, copy-out-refused}
 pub use Rattle.promises.proofs.Buffers.{write-refused}
 pub use Rattle.promises.proofs.Writing.{load-sheet-refused}
 -- one answer

@@ -5,7 +5,7 @@ use native.Mathlib.Nat.{le-of-suc-le-suc, not-suc-le-zero, zero-add, add-zero}
 use native.Mathlib.Numerals.{add-one}
 use native.Mathlib.Omega.{arith}
 use mathlib.Core.Path.{_≡_, refl, sym, ap, ap₂, _∙_, subst}
-use mathlib.Core.Bool.{Bool, true, false}
+use mathlib.Core.Bool.{true}
 use mathlib.Core.List.{List, [], _∷_, _++_, map, append-nil}
 use lib.ListN.{length, getD, take, drop, length-append, length-take}
 use lib.Seq.{drop-cons, drop-drop, append-snoc, drop-length, getD-take, getD-drop, take-all}
@@ -22,7 +22,7 @@ use Rattle.rules.specs.Family.{step, steps, dropOpen}
 use Rattle.rules.specs.Collecting.{linkage, Entries, Content, withSets, said, setsMeet, meets}
 use Rattle.rules.specs.Block.{bit}
 use Rattle.rules.specs.Outcomes.{taken, refused, verdict, Answer, readBlock, readBlocks, isFull, withoutRoom, roomlessBlocks, readRecording, leftOver, roomless}
-use Rattle.rules.proofs.Basics.{Every, cases-bool}
+use Rattle.rules.proofs.Basics.{Every, cases-bool, bit-small}
 use Rattle.rules.proofs.Taken.{GoodField, taken-good}
 use Rattle.rules.proofs.TableRules.{Meets, table-meets}
 use Rattle.rules.proofs.LinkageLaws.{meets-steps, meets-drop-open, answer-taken, answer-refused, bytes-list, no-block}
@@ -124,11 +124,6 @@ going-first bytes t reply spots c m e n s =
 
 -- ---- a field more
 
-bit-most : (b : Bool) → bit b ≤ 1
-unfolding bit
-bit-most true = omega arith
-bit-most false = omega arith
-
 every-get : {A : Type 0} (P : A → Type 0) (d : A) (xs : List A) (i : ℕ) → Every P xs → i < length xs → P (getD xs i d)
 every-get P d [] i e h = absurd (not-suc-le-zero h)
 every-get P d (x ∷ xs) zero e h = e .0
@@ -204,7 +199,7 @@ module _ (bytes : List ℕ) (t₀ : Table) (t : Sets) (reply : Reply) (spots : S
         as-many = length-append (G .noted) (n ∷ []) ∙ omega (arith, G .as-many);
         within = omega (arith, more-fields h);
         at-most = G .at-most;
-        room = omega (arith, G .room, more-fields h, ap (λ (x : Reply). x .full) q, bit-most (isFull n));
+        room = omega (arith, G .room, more-fields h, ap (λ (x : Reply). x .full) q, bit-small (isFull n));
         answer =
             G .answer
             ∙ ap (λ (a : Ran). runBlocks ((length bytes - at) / 32) a (drop at bytes))

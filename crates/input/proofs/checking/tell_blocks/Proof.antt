@@ -3,8 +3,9 @@ use native.Mathlib.Nat.{le-trans}
 use native.Mathlib.Omega.{arith}
 use mathlib.Core.Path.{_∙_}
 use Rattle.report.proofs.Sizes.{lines-short}
+use Rattle.out.proofs.Answers.{puts-front}
 use borrow.Author.Needs.{needs}
-use Rattle.input.proofs.CheckLaws.{puts-front, chunk-follows}
+use Rattle.input.proofs.CheckLaws.{chunk-follows}
 use Rattle.input.proofs.checking.tell_blocks.Statement.{statement}
 use Rattle.input.proofs.checking.tell_blocks.Tie as tie
 

@@ -2,8 +2,9 @@
 use native.Mathlib.Omega.{arith}
 use mathlib.Core.Path.{_∙_}
 use Rattle.report.proofs.Sizes.{counts-short}
+use Rattle.out.proofs.Answers.{puts-front}
 use borrow.Author.Needs.{needs}
-use Rattle.input.proofs.CheckLaws.{puts-front, counts-end}
+use Rattle.input.proofs.CheckLaws.{counts-end}
 use Rattle.input.proofs.checking.tell_counts.Statement.{statement}
 use Rattle.input.proofs.checking.tell_counts.Tie as tie
 
