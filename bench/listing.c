@@ -85,7 +85,7 @@ static int add_all(struct list *l, const struct field *f) {
     for (usize i = 0; i < f->count; i++) {
         u32 n = 0;
         for (usize k = 0; k < f->width; k++) n = n << 8 | f->ids[i * f->width + k];
-        if (!add(l, i == 0 && !f->more ? 0 : f->qualifier, n)) return 0;
+        if (!add(l, i == 0 && !f->more && f->key < 0x8000 ? 0 : f->qualifier, n)) return 0;
     }
     return 1;
 }

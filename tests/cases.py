@@ -2,6 +2,7 @@
 
 Document 000 (TS 103 176) Annex A by table number, document 003 (SRG SSR)
 sections 3.2 and 3.3 by ensemble.  Values only; the rules are document 01's.
+Neither source sends a list of another ensemble; the one here is ours.
 """
 
 from making import block, block_of, fig, linking_fig, long, short
@@ -32,6 +33,11 @@ A11 = block(linking_fig(0, 0, 0, long(0x23B1, 1, DAB, [0x43B1, 0x43B9])))
 # Clause A.5: a soft set with FM codes.
 A15 = block(linking_fig(0, 0, 0, long(0x0100, 1, DAB, [0x6511, 0x6711, 0x6911, 0x6C11])))
 A16 = block(linking_fig(1, 0, 0, long(0x0100, 1, RDS, [0x6511, 0x6711, 0x6B11, 0x6C11])))
+
+# Ours, for document 02, R-3: two FM codes of A.16 in a start of their own, of the tuned ensemble and of another.
+TWO_CODES = long(0x0100, 1, RDS, [0x6511, 0x6B11])
+TUNED = block(linking_fig(0, 0, 0, TWO_CODES))
+OTHER = block(linking_fig(0, 1, 0, TWO_CODES))
 
 # Clause A.6: one DAB service and one FM code in one start.
 A17 = block(linking_fig(0, 0, 0, long(0x2123, 1, RDS, [0x43B9, 0x43B1])))

@@ -9,6 +9,8 @@ import copy
 import re
 import sys
 import traceback
+from collections import Counter
+from itertools import groupby, product
 
 sys.dont_write_bytecode = True
 
@@ -27,6 +29,7 @@ from second.table import (SHOWN_AND_OPENED, Entry, IdList, collect, copy_out, dr
 
 EXAMPLE = block_of("08 06 E0 04 22 44 B1 44 B1")
 LENGTHS = [1, 1, 2, 2, 3, 6, 7, 8, 9, 12, 13, 14, 24, 25, 36, 127, 128]
+FIRST_KINDS = {(0, DAB), (1, DAB), (1, RDS), (1, DRM)}      # OE and the kinds that may begin a set
 
 
 # Random tables
@@ -55,7 +58,7 @@ def random_table(dice, most=32):
 
 def corner_tables():
     """Tables at the limits of the writers."""
-    sheets = [largest_sheet(), most_pieces(0x2000), most_pieces(0x9000), b"\0"]
+    sheets = [largest_sheet(), most_pieces(0x2000), most_pieces(0x9000), most_pieces(0x8000, 32, (RDS, DAB)), b"\0"]
     sheets += [sheet_bytes(items) for items in GOOD_SHEETS + [many_sets(32), long_sheet(128), long_sheet(128, 0x4004)]]
     return [loaded(data) for data in sheets]
 
@@ -69,6 +72,11 @@ def loaded(data):
 def shows(table):
     """What a table shows, for comparison."""
     return [(key, entry.on, entry.shown.named, entry.shown.pairs) for key, entry in shown_sets(table)]
+
+
+def first_kinds(table):
+    """OE and kind of the first identifier, of each shown set."""
+    return {(key >> 15, entry.shown.pairs[0][0]) for key, entry in shown_sets(table)}
 
 
 def read_all(table, blocks):
@@ -153,6 +161,39 @@ def decided_points():
     assert table[key].shown.named == 3 and table[key].open.named == 2
     assert sheet.load(b"") == (10, {}) and sheet.load(b"\0") == (0, {})
     return "repeated pairs, names, held without lists, one identifier"
+
+
+def other_ensemble():
+    """Document 02, R-3, by hand: one list of FM codes with OE 0 and with OE 1, and what may begin a set."""
+    tuned, other = block_of("08 06 C1 00 22 65 11 6B 11"), block_of("08 46 C1 00 22 65 11 6B 11")
+    both = listing((tuned + other) * 2)
+    assert both == ["sets 2", "0100 on ids 2 D6511 R6B11", "8100 on ids 2 R6511 R6B11"]
+    table = {}
+    read_all(table, [tuned, other] * 2)
+    assert air.blocks_of(shown_sets(table)) == [tuned, other]
+    written = bytes.fromhex("02 8002 01 01 02 00 91CA01 01 91D601 808202 01 01 02 01 91CA01 01 91D601")
+    assert sheet.sheet_of(shown_sets(table)) == written and shows(loaded(written)) == shows(table)
+    for key, named, pairs, outcome in (
+            (0x0100, 1, [(RDS, 5)], 10), (0x0100, 2, [(DRM, 5)], 10), (0x1100, 1, [(RDS, 5)], 10),   # OE 0
+            (0x8100, 1, [(RDS, 5)], 0), (0x9100, 2, [(DRM, 5)], 0), (0x9100, 3, [(DRM, 5), (RDS, 5)], 0),
+            (0x8100, 0, [(RDS, 5)], 10), (0x8100, 2, [(RDS, 5)], 10), (0x9100, 1, [(DRM, 5)], 10),  # not named
+            (0x8100, 0, [(DAB, 5)], 0), (0x8100, 1, [(DAB, 5), (RDS, 5)], 0), (0xC100, 0, [(DAB, 5)], 0),   # old ones
+            (0xC100, 1, [(RDS, 5)], 10), (0xC100, 0, [(RDS, 5)], 10)):                              # P/D 1
+        ids = IdList(pairs, named)
+        for table in ({key: Entry(True, ids)}, {key: Entry(True, None, ids)}):
+            assert meets_rules(table) == (outcome == 0), (key, pairs)
+            assert stored.fetch(stored.store(table)) == (None if outcome else table), (key, pairs)
+        assert sheet.load(sheet.sheet_of([(key, Entry(True, ids))]))[0] == outcome, (key, pairs)
+    for kind in (DAB, RDS, DRM):            # one identifier: with OE 1 its own kind, not 0
+        assert air.pieces_of(0x8100, IdList([(kind, 5)], NAME[kind])) == [(False, kind, [5])]
+    long_run = IdList([(RDS, number) for number in range(13)] + [(DAB, 0)], 3)
+    cut = [(kind, len(numbers)) for _, kind, numbers in air.pieces_of(0x8100, long_run)]
+    assert cut == [(RDS, 12), (RDS, 1), (DAB, 1), (DRM, 0)]
+    assert examine(block_of("04 46 C1 00 20"))[:2] == (6, 2)        # an empty start is one with OE 1 too
+    table = {}                              # a continuation is of its own kind, with OE 1 as with OE 0
+    read_all(table, [start(0x8100, 1, DRM, [5, 5, 6]), more(0x8100, 1, RDS, [5]), more(0x8100, 1, DRM, [6, 5, 7])])
+    assert table[0x8100].open == IdList([(DRM, 5), (DRM, 6), (RDS, 5), (DRM, 7)], 3)
+    return "reading, writing, sheet, rules"
 
 
 def bits_examine(data):
@@ -340,7 +381,8 @@ def plain_list(history):
         kind = field.mark >> 5 & 3
         named |= {0: 0, 1: 1, 3: 2}[kind]
         for place, number in enumerate(field.numbers):
-            pairs.append((DAB if place == 0 and not field.continued else kind, number))
+            service = place == 0 and not field.continued and field.key < 0x8000
+            pairs.append((DAB if service else kind, number))
         pairs = list(dict.fromkeys(pairs))
         if len(pairs) > 128:
             return None
@@ -350,7 +392,7 @@ def plain_list(history):
 def plain_reader():
     """The table against a reader that keeps none, on recordings of few keys and of more than 32."""
     dice = Dice(3)
-    shown = 0
+    shown, firsts = 0, set()
     for count in (1, 2, 3, 5, 8, 45):
         for _ in range(4):
             keys = random_keys(dice, count)
@@ -365,7 +407,8 @@ def plain_reader():
             for key in keys:
                 assert table.get(key) == plain_entry(recording, key), "%X" % key
             shown += len(shown_sets(table))
-    assert shown > 50
+            firsts |= first_kinds(table)
+    assert shown > 50 and firsts == FIRST_KINDS
     return "%d shown sets" % shown
 
 
@@ -379,7 +422,9 @@ def random_block(dice, keys, percent_refused):
 def air_read_back():
     """Written for air and read twice into an empty table: the same sets; read once: none."""
     dice = Dice(4)
-    tables = corner_tables() + [random_table(dice, dice.pick([1, 3, 32])) for _ in range(60)]
+    tables = [random_table(dice, dice.pick([1, 3, 32])) for _ in range(60)]
+    assert set.union(*map(first_kinds, tables)) == FIRST_KINDS
+    tables += corner_tables()
     for table in tables:
         assert meets_rules(table)
         blocks = air.blocks_of(shown_sets(table))
@@ -433,7 +478,7 @@ def strict_sheet(data):
             size = 32 if key & 0x4000 else 24 if key & 0x1000 else 16
             pairs = [(number(), number()) for _ in range(count)]
             kinds = {kind for kind, _ in pairs}
-            assert kinds <= {0, 1, 3} and pairs[0][0] == 0 and len(set(pairs)) == count
+            assert kinds <= {0, 1, 3} and (pairs[0][0] == 0 or key >= 0x8000) and len(set(pairs)) == count
             assert all(value < 1 << size for _, value in pairs)
             assert (1 not in kinds or named & 1) and (3 not in kinds or named & 2)
             assert not key & 0x4000 or (named == 0 and kinds == {0})
@@ -521,17 +566,52 @@ def refusals():
 
 
 def bounds():
-    """128 pieces a set, 131,072 bytes for air and 24,801 for a sheet are reached and never passed."""
+    """Reached, never passed: 128 pieces a set, 129 with OE 1; 131,072 and 132,096 bytes for air; 24,801 for a sheet."""
     dice = Dice(9)
-    most = air_most = sheet_most = 0
+    most, air_most, sheet_most = {0: 0, 1: 0}, {0: 0, 1: 0}, 0
     for table in corner_tables() + [random_table(dice) for _ in range(100)]:
         shown = shown_sets(table)
-        most = max([most] + [len(air.pieces_of(key, entry.shown)) for key, entry in shown])
+        counts = [(key >> 15, len(air.pieces_of(key, entry.shown))) for key, entry in shown]
+        for oe, count in counts:
+            most[oe] = max(most[oe], count)
+        other = max([oe for oe, _ in counts], default=0)
+        air_most[other] = max(air_most[other], 32 * sum(count for _, count in counts))
         sheet_most = max(sheet_most, len(sheet.sheet_of(shown)))
-        air_most = max(air_most, 32 * sum(len(air.pieces_of(key, entry.shown)) for key, entry in shown))
-    assert (most, air_most, sheet_most) == (128, 131072, 24801)
+    assert (most, air_most, sheet_most) == ({0: 128, 1: 129}, {0: 131072, 1: 132096}, 24801)
     assert len(examine(block(linking_fig(1, 0, 0, *[short(0x2004, 1)] * 14)))[2]) == 14
-    return "128, 131072, 24801, 14 notes"
+    return "128 and 129, 131072 and 132096, 24801, 14 notes"
+
+
+def small_sets():
+    """Key, kinds and named kinds of every small set: one to five identifiers of 16 bits, OE 0 and 1."""
+    for key in (0x2004, 0xA004):
+        for length in range(1, 6):
+            for kinds in product((DAB, RDS, DRM), repeat=length):
+                present = (RDS in kinds) + 2 * (DRM in kinds)
+                if key == 0xA004 or kinds[0] == DAB:
+                    yield from ((key, kinds, named) for named in range(4) if named & present == present)
+
+
+def every_small_set():
+    """Every small set is cut as the runs of its kinds say and comes back; how many pieces so many identifiers need."""
+    sets, most = 0, Counter()
+    for key, kinds, named in small_sets():
+        ids = IdList([(kind, 7 + place) for place, kind in enumerate(kinds)], named)
+        runs = [(kind, len(list(run))) for kind, run in groupby(kinds)]
+        if key == 0x2004:           # the service counts with the run after it
+            after = [(kind, len(list(run))) for kind, run in groupby(kinds[1:])] or [(DAB, 0)]
+            runs = [(after[0][0], after[0][1] + 1)] + after[1:]
+        dead = [(kind, 0) for kind in (RDS, DRM) if named & NAME[kind] and kind not in kinds]
+        pieces = air.pieces_of(key, ids)
+        assert [(kind, len(numbers)) for _, kind, numbers in pieces] == runs + dead, (key, kinds, named)
+        most[key >> 15, len(kinds)] = max(most[key >> 15, len(kinds)], len(pieces))
+        table, again = {key: Entry(True, ids)}, {}
+        assert meets_rules(table) and loaded(sheet.sheet_of(shown_sets(table))) == table
+        read_all(again, air.blocks_of(shown_sets(table)) * 2)
+        assert shows(again) == shows(table)
+        sets += 1
+    assert most == {(oe, length): max(3, length + oe) for oe in (0, 1) for length in range(1, 6)}
+    return "%d sets" % sets
 
 
 # Demand 3
@@ -627,6 +707,8 @@ def spoilings():
     for _ in range(40):
         good = stored.store(random_table(dice, dice.pick([1, 3, 8, 32])))
         assert stored.fetch(good) is not None
+        tuned = [entry for entry in good.entries if entry.shown.length and entry.key < 0x8000]
+        assert (spoil.spoiled(good, 10) is not None) == bool(tuned)
         for way in spoil.WAYS:
             bad = spoil.spoiled(good, way)
             if bad is not None:
@@ -682,9 +764,9 @@ def any_line():
     return "3000 lines"
 
 
-CHECKS = [block_check, examples, decided_points, reading_over_bits, counted_places, made_places, reports,
-          random_reports, plain_reader, air_read_back, sheets_back, sheets_accepted, rules_kept, refusals, bounds,
-          better_and_worse, where_it_fails, spoilings, any_stored_form, any_line]
+CHECKS = [block_check, examples, decided_points, other_ensemble, reading_over_bits, counted_places, made_places,
+          reports, random_reports, plain_reader, air_read_back, sheets_back, sheets_accepted, rules_kept, refusals,
+          bounds, every_small_set, better_and_worse, where_it_fails, spoilings, any_stored_form, any_line]
 
 
 def main():

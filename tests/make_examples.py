@@ -2,8 +2,9 @@
 
     python3 tests/make_examples.py [folder]
 
-Sets and values are those of documents 000 and 003; the order and repetition
-of the blocks is ours, so that each set comes to be shown.
+Sets and values are those of documents 000 and 003, but for the set of another
+ensemble; the order and repetition of the blocks is ours, so that each set
+comes to be shown.
 """
 
 import os
@@ -87,6 +88,9 @@ def recordings():
         ("annex-a07-faulty", [cases.A19, cases.A20, cases.A21] * 2 + FAULTY + [cases.A21],
          "annex-a07, and then blocks that an encoder made wrong, with good checks: refused with 3, 4, 5 and 6",
          "000, A.7, tables A.19 to A.21; the faults are ours", 1),
+        ("other-ensemble", [cases.TUNED, cases.OTHER] * 2,
+         "one list of two FM codes, of the tuned ensemble (OE 0: its first is a DAB service) and of another (OE 1: an FM code)",
+         "ours, with codes of 000, A.5, table A.16", 2),
     ]
     return rows
 

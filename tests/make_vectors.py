@@ -7,12 +7,14 @@ fails where a script does not reach what it is there to reach.
 """
 
 import os
+import re
 import sys
 from collections import Counter
 
 sys.dont_write_bytecode = True
 
 import cases
+import other
 import places
 import scenes
 from folder import write_files
@@ -40,6 +42,11 @@ PLACE_REACH = (["b 0"] + ["b %d @0" % outcome for outcome in (1, 2, 9)]
                + ["%d then %d" % (early, late) for early in (4, 5, 6) for late in (3, 4, 5, 6)]
                + ["%d then %d in one FIG" % (early, late) for early in (5, 6) for late in (4, 5, 6)]
                + ["5 and 6 in one FIG"])
+OTHER_REACH = (READ_REACH + ["b 9", "c 9", "a 0", "a 8", "a 9", "s 0", "s 8", "l 0", "l 10", "t 9", "u", "x 10 ?"]
+               + ["x %d done" % way for way in range(1, 17)])
+# A shown set that begins with each kind: with OE 1 any, of 16 and 24 bits.
+FIRST_SHOWN = ["[0-3]... (on|off) shown . D", "[4-7]... (on|off) shown 0 D", "[C-F]... (on|off) shown 0 D"]
+FIRST_SHOWN += ["[%s]... (on|off) shown . %s" % (key, letter) for key in ("8A", "9B") for letter in "DRM"]
 
 
 # examples.in: document 01, Examples
@@ -242,11 +249,39 @@ def places_script():
     return script
 
 
+# other.in
+
+
+def other_script():
+    """Document 02, R-3: sets of another ensemble."""
+    script = Script()
+    dice = Dice(20240405)
+    other.by_hand(script)
+    other.starts(script)
+    other.continuations(script)
+    other.dead_links(script)
+    other.side_by_side(script)
+    other.repeats(script)
+    for key, kind in ((0x8100, RDS), (0xB100, DRM)):
+        scenes.on_and_off(script, key, kind)
+    other.refused(script)
+    other.full_table(script)
+    other.lengths(script)
+    other.cuts(script)
+    other.most_of_a_set(script)
+    other.sheets(script)
+    other.first_spoiled(script)
+    other.each_spoiling(script)
+    other.random_scenes(script, dice)
+    other.most_of_all(script)
+    return script
+
+
 # large.in
 
 
 def large():
-    """The bounds: the largest sheet, the most blocks for air, the longest line."""
+    """The bounds with OE 0: the largest sheet, the most blocks for air; and the longest line."""
     script = Script()
     sheet = largest_sheet()
     assert len(sheet) == 24801
@@ -260,14 +295,14 @@ def large():
     script.do("c 4100 127 128")
     script.load(sheet[:-1], 10)
     script.load(sheet + b"\0", 10)
-    for flags in (0x2000, 0x9000):
+    for flags in (0x2000, 0x1000):
         sheet = most_pieces(flags)
         script.load(sheet, 0)
         assert script.air_length() == 131072
         script.expect("a 131071", 8)
         script.do("s 24801")
     script.expect("a 131072", 0)
-    script.expect("f 9003", 0)
+    script.expect("f 1003", 0)
     script.expect("a %d" % script.air_length(), 0)
     script.load(most_pieces(0x2000, 1), 0)
     scenes.read_back(script)
@@ -302,6 +337,12 @@ def all_dead_links():
             [start(0x3004, 1, RDS, [4, 5]), more(0x3004, 1, DRM, [])],
             [start(0x3005, 1, DRM, [4, 5]), more(0x3005, 1, RDS, [])],
             [start(0x2006, 0, DAB, [6])]]
+
+
+def first_of_another():
+    """Sets of another ensemble that begin with each kind, and what the same lists are with OE 0: blocks for each."""
+    return [other.sent(flags | 0x010 + place, place % 2, pieces)
+            for place, pieces in enumerate(other.NAMINGS) for flags in (0x0000, 0x8000, 0xB000)]
 
 
 def twice(sets):
@@ -372,6 +413,8 @@ def recordings():
         "widths": twice(widths),
         "dead-links": twice(dead),
         "oe": twice(other_ensembles),
+        "oe-first": twice(first_of_another()),
+        "other-ensemble": (cases.TUNED + cases.OTHER) * 2,
         "full": full_recording(dice),
         "random": b"".join(random_recording(dice, 1000)),
     }
@@ -386,6 +429,12 @@ def reached(name, script, needed):
     assert not missing, (name, missing)
 
 
+def answered(name, script, forms):
+    """Fails where no line of the answers begins in one of these ways."""
+    missing = [form for form in forms if not any(re.match(form, line) for line in script.answers)]
+    assert not missing, (name, missing)
+
+
 def where_it_can(name, script):
     """Fails where a place is answered at which that fault cannot stand."""
     possible = {"b %d @%d" % (outcome, place) for outcome in places.PLACES for place in places.PLACES[outcome]}
@@ -396,10 +445,13 @@ def where_it_can(name, script):
 def all_files():
     """Path under the folder and bytes of every vector file, and what each script met."""
     scripts = {"examples": examples(), "annex": annex(), "read": read_only(), "random": random_script(),
-               "places": places_script(), "large": large()}
+               "places": places_script(), "other": other_script(), "large": large()}
     reached("read", scripts["read"], READ_REACH)
     reached("random", scripts["random"], ALL_REACH)
     reached("places", scripts["places"], PLACE_REACH)
+    reached("other", scripts["other"], OTHER_REACH)
+    for name in ("read", "random", "other"):
+        answered(name, scripts[name], FIRST_SHOWN)
     assert scripts["read"].seen["commands"] >= 1500 and scripts["random"].seen["commands"] >= 3000
     files = {}
     for name, script in scripts.items():

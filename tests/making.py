@@ -124,9 +124,12 @@ def room(key):
 
 
 def whole_list(key, on, pairs, dead=()):
-    """Blocks of a start and its continuations for (kind, number) pairs, and of dead links."""
+    """Blocks of a start and its continuations for (kind, number) pairs, and of dead links.
+
+    The first pair goes with the run after it; with OE 1 it is the first of a run itself.
+    """
     blocks = []
-    kind, run = pairs[1][0] if len(pairs) > 1 else 0, [pairs[0][1]]
+    kind, run = pairs[0 if key & 0x8000 or len(pairs) == 1 else 1][0], [pairs[0][1]]
     for next_kind, number in pairs[1:]:
         if next_kind != kind or len(run) == room(key):
             blocks.append((more if blocks else start)(key, on, kind, run))

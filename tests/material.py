@@ -32,10 +32,10 @@ def random_number(dice, key):
 
 
 def random_pairs(dice, key, length):
-    """Different pairs, the first DAB, kinds in runs, alternating or anyhow."""
+    """Different pairs, the first DAB unless OE is 1, kinds in runs, alternating or anyhow."""
     kinds = [DAB] if key & 0x4000 else dice.pick([[DAB], [DAB, RDS], [DAB, DRM], [RDS], [DRM], [DAB, RDS, DRM]])
     style = dice.below(3)
-    kind, pairs, seen = DAB, [], set()
+    kind, pairs, seen = dice.pick(kinds) if key & 0x8000 else DAB, [], set()
     while len(pairs) < length:
         if pairs and (style == 0 or dice.chance(20)):
             kind = dice.pick(kinds)
@@ -173,6 +173,7 @@ GOOD_SHEETS = [
     [1, 0x4001, 1, 0, 3, 0, (1 << 28) - 1, 0, 1 << 28, 0, (1 << 32) - 1],
     [1, 0x5001, 1, 0, 1, 0, (1 << 32) - 1], [1, 0xFFFF, 1, 0, 1, 0, 0],
     [2, 0x2004, 1, 0, 1, 0, 5, 0x2005, 0, 3, 3, 0, 5, 1, 5, 3, 5],
+    [1, 0xA004, 1, 1, 1, 1, 5], [2, 0x2004, 1, 1, 2, 0, 5, 1, 6, 0xB004, 0, 3, 2, 3, 5, 0, 5],      # OE 1
 ]
 
 BAD_SHEETS = [
@@ -193,7 +194,8 @@ BAD_SHEETS = [
     [1, 0x2004, 1, 0, 2, 0, 5, 2, 6], [1, 0x2004, 1, 3, 2, 0, 5, 2, 6], [1, 0x2004, 1, 3, 2, 0, 5, 4, 6],
     [1, 0x2004, 1, 0, 1, 0, 65536], [1, 0x3004, 1, 0, 1, 0, 1 << 24], [1, 0xB004, 1, 3, 2, 0, 5, 3, 1 << 24],
     [1, 0x2004, 1, 0, 2, 0, 5, 0, 5], [1, 0x2004, 1, 1, 3, 0, 5, 1, 5, 1, 5],                       # a pair twice
-    [1, 0x2004, 1, 1, 1, 1, 5], [1, 0x2004, 1, 3, 2, 3, 5, 0, 5], [1, 0xA004, 1, 1, 1, 1, 5],       # first not DAB
+    [1, 0x2004, 1, 1, 1, 1, 5], [1, 0x2004, 1, 3, 2, 3, 5, 0, 5], [1, 0x3004, 1, 2, 1, 3, 5],       # first not DAB
+    [1, 0xA004, 1, 0, 1, 1, 5], [1, 0xB004, 1, 1, 1, 3, 5], [1, 0xC004, 1, 1, 1, 1, 5],             # with OE 1
     [1, 0x4004, 1, 1, 1, 0, 5], [1, 0x4004, 1, 2, 1, 0, 5], [1, 0x4004, 1, 1, 2, 0, 5, 1, 6],
     [1, 0x4004, 1, 0, 2, 0, 5, 1, 6], [1, 0xC004, 1, 3, 2, 0, 5, 3, 6],                             # P/D 1
     [1, 0x2004, 1, 1, 2, 0, 5], [1, 0x2004, 1, 1], [33], [200, 1, 0, 0, 1, 0, 5],
@@ -220,11 +222,11 @@ def largest_sheet():
     return sheet_bytes(items)
 
 
-def most_pieces(flags, count=32):
-    """A sheet of sets that need 128 pieces each: DAB and RDS by turns, DRM named and absent."""
+def most_pieces(flags, count=32, kinds=(DAB, RDS)):
+    """A sheet of sets with the most pieces: two kinds by turns, all kinds named; 128 each, with OE 1 129."""
     items = [count]
     for place in range(count):
         items += [flags + 1 + place, place % 2, 3, 128]
         for number in range(128):
-            items += [number % 2, 0x40B1 + 0x101 * (number // 2)]
+            items += [kinds[number % 2], 0x40B1 + 0x101 * (number // 2)]
     return sheet_bytes(items)

@@ -130,11 +130,10 @@ def many_fields(script):
     script.block(block(*[linking_fig(0, 1, 1)] * 15), 0, [])
 
 
-def on_and_off(script):
+def on_and_off(script, key=0x2004, kind=DAB):
     """LA of every field of a held key counts, also where no list changes."""
     script.empty()
-    key = 0x2004
-    script.block(start(key, 1, DAB, [1]), 0, [1])
+    script.block(start(key, 1, kind, [1]), 0, [1])
     script.block(more(key, 0, DAB, [2]), 0, [3])
     script.show()
     script.block(damaged(EXAMPLE), 2)
@@ -144,7 +143,7 @@ def on_and_off(script):
             script.show()
     script.block(more(key, 0, DAB, [2]), 0, [4])
     script.show()
-    script.block(start(key, 1, DAB, [1]), 0, [1])
+    script.block(start(key, 1, kind, [1]), 0, [1])
     script.show()
 
 
@@ -236,7 +235,8 @@ def long_list(script, key, kinds=(DAB,)):
     """A list of 128: known pairs again are nothing, a 129th drops it whole."""
     top = (1 << 8 * id_size(key)) - 1
     pairs = [(kinds[place % len(kinds)], top - place) for place in range(128)]
-    pairs[0] = (DAB, top)
+    if not key & 0x8000:
+        pairs[0] = (DAB, top)
     script.empty()
     script.blocks(whole_list(key, 1, pairs[:127]))
     known = [number for kind, number in pairs[-40:-1] if kind == pairs[127][0]][:room(key) - 1]
@@ -344,8 +344,13 @@ def read_back(script):
 
 def random_sets(script, dice, count, longest):
     """Some sets shown in a fresh table."""
+    shown_anyhow(script, dice, random_keys(dice, count), longest)
+
+
+def shown_anyhow(script, dice, keys, longest):
+    """Sets of these keys shown in a fresh table, with any identifiers and dead links."""
     script.empty()
-    for key in random_keys(dice, count):
+    for key in keys:
         pairs = random_pairs(dice, key, dice.pick([1, 1, 2, 3, dice.between(1, longest)]))
         dead = [] if key & 0x4000 else [kind for kind in (RDS, DRM) if dice.chance(30)]
         blocks = whole_list(key, dice.below(2), pairs, dead)
@@ -373,12 +378,12 @@ def sheets(script):
 
 
 def longest_sets(script):
-    """Sets that need 128 pieces: 4,096 bytes and not one less."""
-    for flags in (0x2000, 0x9000):
+    """Sets that need 128 pieces, with OE 1 129: so many bytes and not one less."""
+    for flags, length in ((0x2000, 4096), (0x9000, 4128)):
         script.load(most_pieces(flags, 1), 0)
-        assert script.air_length() == 4096
-        script.expect("a 4095", 8)
-        script.expect("a 4096", 0)
+        assert script.air_length() == length
+        script.expect("a %d" % (length - 1), 8)
+        script.expect("a %d" % length, 0)
 
 
 def changed_sheets(script, dice, rounds):

@@ -10,5 +10,6 @@ beside its section of document 01:
     listing.py  Examples, 16           replay.py, spoil.py   the test scripts
 
 columns.py, figs.py and check.py print what `linkage list --table`, `list
---csv`, `figs` and `check` print.  Places are those of document 02, R-1.
+--csv`, `figs` and `check` print.  Places are those of document 02, R-1; what
+begins a set whose OE is 1 is R-3's (field.py, first_is_service).
 """

@@ -1,6 +1,6 @@
 """Writing the shown sets for air: one piece, one FIG, one block.
 
-Document 01, Writing for air.
+Document 01, Writing for air; document 02, R-3, for what a start takes.
 """
 
 from second import block as fib
@@ -18,11 +18,16 @@ def run_length(pairs):
 
 
 def pieces_of(key, ids):
-    """The pieces of one set as (continued, qualifier, numbers), in order."""
+    """The pieces of one set as (continued, qualifier, numbers), in order.
+
+    The start takes a run of one kind, with the service before it where the
+    first identifier is one.
+    """
     room = ROOM[linking.width(key)]
     numbers = [number for _, number in ids.pairs]
-    rest = ids.pairs[1:]
-    taken = min(1 + run_length(rest), room)
+    before = 1 if linking.first_is_service(key) else 0
+    rest = ids.pairs[before:]
+    taken = min(before + run_length(rest), room)
     pieces = [(False, rest[0][0] if rest else linking.DAB, numbers[:taken])]
     while taken < len(numbers):
         rest = ids.pairs[taken:]

@@ -1,7 +1,7 @@
 """The linking field: service linking is FIG type 0, extension 6.
 
 Document 01, The linking field, and outcomes 1 to 6 of Numbered outcomes;
-document 02, R-1, for the place of a refusal.
+document 02, R-1, for the place of a refusal, R-3 for the first identifier.
 """
 
 from collections import namedtuple
@@ -42,10 +42,19 @@ def is_start(field):
     return has_list(field) and not field.continued
 
 
+def first_is_service(key):
+    """Whether the first identifier under this key is a DAB service, whatever the qualifier of its start.
+
+    With OE 0 it is: the service in the tuned ensemble.  With OE 1 another
+    ensemble is spoken of, and the first has the qualifier's kind as the rest.
+    """
+    return not key & OE
+
+
 def pairs_of(field):
-    """Its identifiers as (kind, number): all of the qualifier's kind, but the first of a start is DAB."""
+    """Its identifiers as (kind, number): of the qualifier's kind, but for a service at the head of a start."""
     pairs = [(qualifier(field), number) for number in field.numbers]
-    if is_start(field):
+    if is_start(field) and first_is_service(field.key):
         pairs[0] = (DAB, field.numbers[0])
     return pairs
 

@@ -14,7 +14,7 @@ assignment given here on the stored form of stored.py, and nothing else:
       7   first entry with a shown set             shown length = 129
       8   first with a shown set of 1 to 127       shown number at its length = 1
       9   first with a shown set of 2 or more      shown pair 1 = shown pair 0
-     10   first with a shown set                   shown kind 0 = 1, named gets bit 1
+     10   first with a shown set and OE 0          shown kind 0 = 1, named gets bit 1
      11   first with a shown set and P/D 0         shown number 0 = 2^16, with ILS 1 2^24
      12   first with a shown set                   last shown kind = 2
      13   first whose shown set has kind 1 or 3    shown named = 0
@@ -27,7 +27,7 @@ Where the need is not met nothing is spoiled.
 
 import copy
 
-from second.field import PD, width
+from second.field import PD, first_is_service, width
 from second.table import LONGEST, MOST_KEYS
 
 WAYS = range(1, 17)
@@ -121,7 +121,7 @@ def shown_pair_twice(table):
 
 
 def first_is_rds(table):
-    ids = first_shown(table)
+    ids = first_shown(table, lambda e: first_is_service(e.key))
     if ids is None:
         return False
     ids.kinds[0] = 1

@@ -140,11 +140,11 @@ def copy_out(table, key, numbers, kinds):
 
 
 def list_meets_rules(key, ids):
-    """1 to 128 different pairs, the first DAB, numbers within the width, named kinds right."""
+    """1 to 128 different pairs, the first DAB if it has to be, numbers within the width, named kinds right."""
     pairs = ids.pairs
     if not 1 <= len(pairs) <= LONGEST or len(set(pairs)) < len(pairs):
         return False
-    if pairs[0][0] != linking.DAB:
+    if linking.first_is_service(key) and pairs[0][0] != linking.DAB:
         return False
     present = 0
     for kind, number in pairs:

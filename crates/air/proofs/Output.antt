@@ -10,8 +10,8 @@ use lib.Dec.{eqb}
 use borrow.Author.Tests.{eqb-true, eqb-false}
 use Rattle.rules.specs.declared.Outcome.the-variants.{Done, ShortBuffer, WrongTable}
 use Rattle.rules.specs.Field.{Pair}
-use Rattle.rules.specs.Collecting.{IdSet, Content, meets, keyWidth, mostKeys}
-use Rattle.pieces.specs.Air.{Piece, pieceMost, cut, deadLink, pieces, figBytes, blockOf, blocksOf, setBlocks, allBlocks, air}
+use Rattle.rules.specs.Collecting.{IdSet, Content, meets, mostKeys}
+use Rattle.pieces.specs.Air.{Piece, cut, deadLink, pieces, figBytes, blockOf, blocksOf, setBlocks, allBlocks, air}
 use Rattle.rules.proofs.Basics.{cases-bool}
 use Rattle.pieces.proofs.ReadBack.{blocks-length}
 use Rattle.rules.proofs.TableRules.{table-rules}
@@ -37,20 +37,20 @@ unfolding blocksOf
 blocks-append k on [] ds = refl
 blocks-append k on (c ∷ cs) ds = rw (blocks-append k on cs ds) (sym (append-assoc (blockOf (figBytes k on c)) (blocksOf k on cs) (blocksOf k on ds)))
 
-pub set-size : (k : ℕ) (on : Bool) (l : IdList) → length (setBlocks (shownAs k on l)) ≡ 32 * length (pieces (pieceMost (keyWidth k)) (setIn l))
+pub set-size : (k : ℕ) (on : Bool) (l : IdList) → length (setBlocks (shownAs k on l)) ≡ 32 * length (pieces k (setIn l))
 unfolding setBlocks shownAs
-set-size k on l = blocks-length k on (pieces (pieceMost (keyWidth k)) (setIn l))
+set-size k on l = blocks-length k on (pieces k (setIn l))
 
 -- the identifiers' pieces, and the dead links
 pub set-made : (k : ℕ) (on : Bool) (l : IdList)
-    → blocksOf k on (cut (pieceMost (keyWidth k)) (setIn l .items))
+    → blocksOf k on (cut k (setIn l .items))
     ++ blocksOf k on (deadLink 1 (eqb (l .named % 2) 1) (setIn l .items))
     ++ blocksOf k on (deadLink 3 (eqb (l .named / 2) 1) (setIn l .items))
     ≡ setBlocks (shownAs k on l)
 unfolding setBlocks shownAs pieces setIn
 set-made k on l =
     let ps : List Pair = setIn l .items in
-    let a : List Piece = cut (pieceMost (keyWidth k)) ps in
+    let a : List Piece = cut k ps in
     let r : List Piece = deadLink 1 (eqb (l .named % 2) 1) ps in
     let d : List Piece = deadLink 3 (eqb (l .named / 2) 1) ps in
     sym (blocks-append k on (a ++ r) d ∙ ap (λ (bs : List ℕ). bs ++ blocksOf k on d) (blocks-append k on a r))

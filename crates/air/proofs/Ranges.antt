@@ -6,19 +6,20 @@ use native.Mathlib.Nat.{suc-add}
 use native.Mathlib.Numerals.{add-one}
 use native.Mathlib.Omega.{arith}
 use mathlib.Core.Path.{_≡_, refl, sym, ap, ap₂, _∙_}
-use mathlib.Core.Bool.{Bool, true, false, not, _&&_}
+use mathlib.Core.Bool.{Bool, true, false, not, cond, _&&_}
 use mathlib.Core.List.{List, [], _∷_, _++_, map, append-nil, append-assoc}
-use lib.ListN.{length, getD, take, drop, length-append, length-take, length-drop, length-map, List·getD-map, List·getD-eq-default}
+use lib.ListN.{length, getD, take, drop, length-append, length-take, length-drop, length-map, List·getD-map}
 use lib.Seq.{slice, drop-length, take-nil, drop-cons, drop-drop, getD-take}
 use lib.Dec.{ltb, eqb}
-use borrow.Author.Tests.{eq-eqb, ne-eqb, lt-ltb, ltb-true, ltb-false}
-use Rattle.rules.specs.Field.{Pair, pair, numberIn, kindIn}
-use Rattle.rules.specs.Collecting.{pairsMeet, kindNamed}
-use Rattle.pieces.specs.Air.{Piece, goesOn, pieceWith, completed, chop, cut}
-use Rattle.rules.proofs.Basics.{cases-bool, and-left, and-right, and-both, true-false}
+use borrow.Author.Tests.{eq-eqb, ne-eqb, ltb-true, ltb-false}
+use Rattle.rules.specs.Field.{Pair, pair, firstKind, numberIn, kindIn}
+use Rattle.rules.specs.Collecting.{keyWidth, oeOf, firstOf, pairsMeet, kindNamed}
+use Rattle.pieces.specs.Air.{Piece, pieceMost, goesOn, pieceWith, completed, chop, startQualifier, cut}
+use Rattle.rules.proofs.Basics.{cases-bool, cond-both, and-left, and-right, true-false}
 use Rattle.rules.proofs.TableRules.{kind-small}
+use Rattle.pieces.proofs.Cutting.{most-room}
 use Rattle.air.specs.declared.Part.{Part}
-use Rattle.air.specs.Parts.{run, qualifierAt, partAt, pieceIn}
+use Rattle.air.specs.Parts.{run, startBy, qualifierAt, partAt, pieceIn}
 use Rattle.air.proofs.Lists.{slice-add, take-min, take-map, drop-map, run-short}
 
 -- ---- a begun piece
@@ -82,46 +83,45 @@ chop-run most c (p ∷ ps) =
 -- ---- the pieces from a place on
 
 unfoldable pub left : ℕ → List Pair → ℕ → List Piece
-left most items zero = cut most items
-left most items (suc from) = further most (drop (suc from) items)
+left k items zero = cut k items
+left k items (suc from) = further (pieceMost (keyWidth k)) (drop (suc from) items)
 
-pub left-end : (most : ℕ) (items : List Pair) → left most items (length items) ≡ []
+pub left-end : (k : ℕ) (items : List Pair) → left k items (length items) ≡ []
 unfolding left cut further
-left-end most [] = refl
-left-end most (p ∷ ps) = ap (further most) (drop-length ps)
+left-end k [] = refl
+left-end k (p ∷ ps) = ap (further (pieceMost (keyWidth k))) (drop-length ps)
 
 -- the piece that begins at a place, begun with the identifier there
-unfoldable begun : List Pair → ℕ → Piece
-begun items from =
-    record { more = not (eqb from 0); qualifier = qualifierAt (map kindIn items) from; numbers = getD (map numberIn items) from 0 ∷ [] }
+unfoldable begun : ℕ → List Pair → ℕ → Piece
+begun k items from =
+    record { more = not (eqb from 0); qualifier = qualifierAt k (map kindIn items) from; numbers = getD (map numberIn items) from 0 ∷ [] }
 
-left-begun : (most : ℕ) (items : List Pair) (from : ℕ) → 1 < most → from < length items
-    → left most items from ≡ chop most (begun items from) (drop (suc from) items)
-unfolding left cut chop further begun completed pieceWith goesOn qualifierAt kindIn numberIn pair
-left-begun most [] zero m h = absurd (omega arith)
-left-begun most (p ∷ []) zero m h = refl
-left-begun most (p ∷ (q ∷ qs)) zero m h =
-    let c : Piece = begun (p ∷ (q ∷ qs)) 0 in
-    let g : goesOn most c q ≡ true = and-both (eqb (q .kind) (q .kind)) (ltb 1 most) (eq-eqb (q .kind) (q .kind) refl) (lt-ltb 1 most m) in
-    sym (ap (λ (b : Bool). completed b c (chop most (pieceWith b c q) qs)) g)
-left-begun most items (suc from) m h =
+left-begun : (k : ℕ) (items : List Pair) (from : ℕ) → from < length items
+    → left k items from ≡ chop (pieceMost (keyWidth k)) (begun k items from) (drop (suc from) items)
+unfolding left cut startQualifier further begun qualifierAt startBy kindIn numberIn pair
+left-begun k [] zero h = absurd (omega arith)
+left-begun k (p ∷ []) zero h = refl
+left-begun k (p ∷ (q ∷ qs)) zero h = refl
+left-begun k items (suc from) h =
     let p : Pair = getD items (suc from) (pair 0 0) in
-    let k : p .kind ≡ getD (map kindIn items) (suc from) 0 = sym (List·getD-map kindIn items (suc from) (pair 0 0)) in
+    let most : ℕ = pieceMost (keyWidth k) in
+    let kind : p .kind ≡ getD (map kindIn items) (suc from) 0 = sym (List·getD-map kindIn items (suc from) (pair 0 0)) in
     let n : p .number ≡ getD (map numberIn items) (suc from) 0 = sym (List·getD-map numberIn items (suc from) (pair 0 0)) in
     let m : true ≡ not (eqb (suc from) 0) = sym (ap not (ne-eqb (suc from) 0 (λ e. omega arith))) in
     ap (further most) (drop-cons items (suc from) (pair 0 0) h)
-    ∙ λ i. chop most (record { more = m i; qualifier = k i; numbers = n i ∷ [] }) (drop (suc (suc from)) items)
+    ∙ λ i. chop most (record { more = m i; qualifier = kind i; numbers = n i ∷ [] }) (drop (suc (suc from)) items)
 
 -- where the range that begins at a place ends
-range-end : (most : ℕ) (items : List Pair) (from : ℕ) → 1 < most
-    → partAt most (map kindIn items) from .to ≡ suc (from + taken most (begun items from) (drop (suc from) items))
+range-end : (k : ℕ) (items : List Pair) (from : ℕ)
+    → partAt k (map kindIn items) from .to ≡ suc (from + taken (pieceMost (keyWidth k)) (begun k items from) (drop (suc from) items))
 unfolding partAt taken begun
-range-end most items from m =
+range-end k items from =
+    let most : ℕ = pieceMost (keyWidth k) in
     let ks : List ℕ = map kindIn items in
-    let e : from + most ≡ suc from + (most - 1) = omega arith in
+    let e : from + most ≡ suc from + (most - 1) = omega (arith, most-room (keyWidth k)) in
     let s : slice (from + 1) (from + most) ks ≡ take (most - 1) (map kindIn (drop (suc from) items)) =
     rw (add-one from, e) (slice-add (suc from) (most - 1) ks ∙ ap (take (most - 1)) (drop-map kindIn (suc from) items)) in
-    ap (λ (xs : List ℕ). from + 1 + run (qualifierAt ks from) xs) s ∙ omega arith
+    ap (λ (xs : List ℕ). from + 1 + run (qualifierAt k ks from) xs) s ∙ omega arith
 
 -- the numbers of a range
 range-numbers : (xs : List ℕ) (from n : ℕ) → from < length xs → slice from (suc (from + n)) xs ≡ getD xs from 0 ∷ take n (drop (suc from) xs)
@@ -130,70 +130,97 @@ range-numbers xs from n h =
     ap (λ (k : ℕ). slice from k xs) e ∙ slice-add from (suc n) xs ∙ ap (take (suc n)) (drop-cons xs from 0 h)
 
 -- the pieces from a place on are the range there and the pieces from its end on
-pub left-next : (most : ℕ) (items : List Pair) (from : ℕ) → 1 < most → from < length items
-    → left most items from ≡ pieceIn (map numberIn items) (partAt most (map kindIn items) from) ∷ left most items (partAt most (map kindIn items) from .to)
+pub left-next : (k : ℕ) (items : List Pair) (from : ℕ) → from < length items
+    → left k items from ≡ pieceIn (map numberIn items) (partAt k (map kindIn items) from) ∷ left k items (partAt k (map kindIn items) from .to)
 unfolding pieceIn left partAt grown begun
-left-next most items from m h =
+left-next k items from h =
+    let most : ℕ = pieceMost (keyWidth k) in
     let xs : List ℕ = map numberIn items in
     let ps : List Pair = drop (suc from) items in
-    let n : ℕ = taken most (begun items from) ps in
-    let to : partAt most (map kindIn items) from .to ≡ suc (from + n) = range-end most items from m in
+    let n : ℕ = taken most (begun k items from) ps in
+    let to : partAt k (map kindIn items) from .to ≡ suc (from + n) = range-end k items from in
     let ns : slice from (suc (from + n)) xs ≡ getD xs from 0 ∷ map numberIn (take n ps) =
     range-numbers xs from n (rw length-map h)
     ∙ ap (λ (r : List ℕ). getD xs from 0 ∷ r) (ap (take n) (drop-map numberIn (suc from) items) ∙ take-map numberIn n ps) in
-    let made : getD xs from 0 ∷ map numberIn (take n ps) ≡ slice from (partAt most (map kindIn items) from .to) xs =
-    sym ns ∙ ap (λ (k : ℕ). slice from k xs) (sym to) in
-    let rest : further most (drop n ps) ≡ left most items (suc (from + n)) =
-    ap (further most) (drop-drop n (suc from) items ∙ ap (λ (k : ℕ). drop k items) (suc-add from n)) in
-    left-begun most items from m h ∙ chop-run most (begun items from) ps
+    let made : getD xs from 0 ∷ map numberIn (take n ps) ≡ slice from (partAt k (map kindIn items) from .to) xs =
+    sym ns ∙ ap (λ (j : ℕ). slice from j xs) (sym to) in
+    let rest : further most (drop n ps) ≡ left k items (suc (from + n)) =
+    ap (further most) (drop-drop n (suc from) items ∙ ap (λ (j : ℕ). drop j items) (suc-add from n)) in
+    left-begun k items from h ∙ chop-run most (begun k items from) ps
     ∙ ap₂ _∷_
-    (λ i. record { more = not (eqb from 0); qualifier = qualifierAt (map kindIn items) from; numbers = made i })
-    (rest ∙ ap (left most items) (sym to))
+    (λ i. record { more = not (eqb from 0); qualifier = qualifierAt k (map kindIn items) from; numbers = made i })
+    (rest ∙ ap (left k items) (sym to))
 
 -- ---- what the code finds is the range
 
-pub qualifier-there : (ks : List ℕ) (len from : ℕ) → 0 < from → from < len → getD ks from 0 ≡ qualifierAt (take len ks) from
-unfolding qualifierAt
-qualifier-there ks len zero z h = absurd (omega arith)
-qualifier-there ks len (suc from) z h = sym (getD-take len ks (suc from) 0 h)
+-- of a start, by one identifier alone and by the next
+pub start-alone : (k : ℕ) (ks : List ℕ) (len : ℕ) → 0 < len → len < 2 → len ≤ length ks → firstOf k (getD ks 0 0) ≡ startBy k (take len ks)
+unfolding startBy
+start-alone k ks zero z h g = absurd (omega arith)
+start-alone k [] (suc n) z h g = absurd (omega arith)
+start-alone k (x ∷ xs) (suc zero) z h g = refl
+start-alone k (x ∷ xs) (suc (suc n)) z h g = absurd (omega arith)
 
-pub qualifier-second : (ks : List ℕ) (len from : ℕ) → from ≤ 0 → 1 < len → getD ks 1 0 ≡ qualifierAt (take len ks) from
-unfolding qualifierAt
-qualifier-second ks len zero z h = sym (getD-take len ks 1 0 h)
-qualifier-second ks len (suc from) z h = absurd (omega arith)
+start-two : (k : ℕ) (ks : List ℕ) (len : ℕ) → 2 ≤ len → len ≤ length ks
+    → cond (eqb (firstOf k (getD ks 1 0)) (getD ks 0 0)) (getD ks 1 0) (getD ks 0 0) ≡ startBy k (take len ks)
+unfolding startBy
+start-two k ks zero z g = absurd (omega arith)
+start-two k ks (suc zero) z g = absurd (omega arith)
+start-two k [] (suc (suc n)) z g = absurd (omega arith)
+start-two k (x ∷ []) (suc (suc n)) z g = absurd (omega arith)
+start-two k (x ∷ (y ∷ ys)) (suc (suc n)) z g = refl
 
-pub qualifier-none : (ks : List ℕ) (len from : ℕ) → from ≤ 0 → len ≤ 1 → 0 ≡ qualifierAt (take len ks) from
-unfolding qualifierAt
-qualifier-none ks len zero z h = sym (List·getD-eq-default (take len ks) 0 {n = 1} (rw length-take (omega arith)))
-qualifier-none ks len (suc from) z h = absurd (omega arith)
+pub start-next : (k : ℕ) (ks : List ℕ) (len r : ℕ) → 2 ≤ len → len ≤ length ks → r ≡ firstOf k (getD ks 1 0) → r ≡ getD ks 0 0
+    → getD ks 1 0 ≡ startBy k (take len ks)
+start-next k ks len r h g e t =
+    sym (ap (λ (b : Bool). cond b (getD ks 1 0) (getD ks 0 0)) (eq-eqb (firstOf k (getD ks 1 0)) (getD ks 0 0) (sym e ∙ t))) ∙ start-two k ks len h g
 
-pub range-made : (ks : List ℕ) (len from most end q to : ℕ) → end ≡ min len (from + most) → q ≡ qualifierAt (take len ks) from
+pub start-own : (k : ℕ) (ks : List ℕ) (len r : ℕ) → 2 ≤ len → len ≤ length ks → r ≡ firstOf k (getD ks 1 0) → (r ≡ getD ks 0 0 → ⊥)
+    → getD ks 0 0 ≡ startBy k (take len ks)
+start-own k ks len r h g e t =
+    sym (ap (λ (b : Bool). cond b (getD ks 1 0) (getD ks 0 0)) (ne-eqb (firstOf k (getD ks 1 0)) (getD ks 0 0) (λ x. t (e ∙ x)))) ∙ start-two k ks len h g
+
+pub qualifier-there : (k : ℕ) (ks : List ℕ) (len from : ℕ) → 0 < from → from < len → getD ks from 0 ≡ qualifierAt k (take len ks) from
+unfolding qualifierAt
+qualifier-there k ks len zero z h = absurd (omega arith)
+qualifier-there k ks len (suc from) z h = sym (getD-take len ks (suc from) 0 h)
+
+pub qualifier-start : (k : ℕ) (ks : List ℕ) (from q : ℕ) → from ≤ 0 → q ≡ startBy k ks → q ≡ qualifierAt k ks from
+unfolding qualifierAt
+qualifier-start k ks zero q z e = e
+qualifier-start k ks (suc from) q z e = absurd (omega arith)
+
+pub range-made : (k : ℕ) (ks : List ℕ) (len from end q to : ℕ) → end ≡ min len (from + pieceMost (keyWidth k)) → q ≡ qualifierAt k (take len ks) from
     → to ≡ from + 1 + run q (slice (from + 1) end ks)
-    → _≡_ {A = Part} (record { from = from; to = to; qualifier = q }) (partAt most (take len ks) from)
+    → _≡_ {A = Part} (record { from = from; to = to; qualifier = q }) (partAt k (take len ks) from)
 unfolding partAt
-range-made ks len from most end q to e f g =
+range-made k ks len from end q to e f g =
+    let most : ℕ = pieceMost (keyWidth k) in
     let s : slice (from + 1) end ks ≡ slice (from + 1) (from + most) (take len ks) =
-    ap (λ (k : ℕ). slice (from + 1) k ks) e ∙ ap (drop (from + 1)) (sym (take-min (from + most) len ks)) in
-    let t : to ≡ from + 1 + run (qualifierAt (take len ks) from) (slice (from + 1) (from + most) (take len ks)) = g ∙ rw (s, f) in
+    ap (λ (j : ℕ). slice (from + 1) j ks) e ∙ ap (drop (from + 1)) (sym (take-min (from + most) len ks)) in
+    let t : to ≡ from + 1 + run (qualifierAt k (take len ks) from) (slice (from + 1) (from + most) (take len ks)) = g ∙ rw (s, f) in
     λ i. record { from = from; to = t i; qualifier = f i }
 
 -- ---- how far a range reaches
 
-module _ (most : ℕ) (ks : List ℕ) (from : ℕ) (room : 0 < most) (h : from < length ks) where
-  reach : run (qualifierAt ks from) (slice (from + 1) (from + most) ks) ≤ min (from + most) (length ks) - (from + 1)
-  reach = rw (← length-take (from + most) ks, ← length-drop (from + 1) (take (from + most) ks)) (run-short (qualifierAt ks from) (slice (from + 1) (from + most) ks))
+module _ (k : ℕ) (ks : List ℕ) (from : ℕ) (h : from < length ks) where
+  abbrev most : ℕ
+  most = pieceMost (keyWidth k)
 
-  pub range-ahead : from < partAt most ks from .to
+  reach : run (qualifierAt k ks from) (slice (from + 1) (from + most) ks) ≤ min (from + most) (length ks) - (from + 1)
+  reach = rw (← length-take (from + most) ks, ← length-drop (from + 1) (take (from + most) ks)) (run-short (qualifierAt k ks from) (slice (from + 1) (from + most) ks))
+
+  pub range-ahead : from < partAt k ks from .to
   unfolding partAt
   range-ahead = omega arith
 
-  pub range-inside : partAt most ks from .to ≤ length ks
+  pub range-inside : partAt k ks from .to ≤ length ks
   unfolding partAt
-  range-inside = omega (arith, reach)
+  range-inside = omega (arith, reach, most-room (keyWidth k))
 
-  pub range-few : partAt most ks from .to ≤ from + most
+  pub range-few : partAt k ks from .to ≤ from + pieceMost (keyWidth k)
   unfolding partAt
-  range-few = omega (arith, reach)
+  range-few = omega (arith, reach, most-room (keyWidth k))
 
 -- ---- the kinds of a set that meets the rules
 
@@ -204,7 +231,14 @@ kinds-small w named (p ∷ ps) h zero =
     kind-small named (p .kind) (and-right (ltb (p .number) (256 ^ w)) _ (and-left (ltb (p .number) (256 ^ w) && kindNamed named (p .kind)) (pairsMeet w named ps) h))
 kinds-small w named (p ∷ ps) h (suc i) = kinds-small w named ps (and-right (ltb (p .number) (256 ^ w) && kindNamed named (p .kind)) (pairsMeet w named ps) h) i
 
-pub range-kind : (most : ℕ) (ks : List ℕ) (from : ℕ) → ((i : ℕ) → getD ks i 0 < 4) → partAt most ks from .qualifier < 4
+-- a start begins with one of its kinds, or with 0
+start-kind : (k : ℕ) (ks : List ℕ) → ((i : ℕ) → getD ks i 0 < 4) → startBy k ks < 4
+unfolding startBy firstOf firstKind
+start-kind k [] h = omega arith
+start-kind k (x ∷ []) h = cond-both (λ (q : ℕ). q < 4) (eqb (oeOf k) 1) x 0 (h 0) (omega arith)
+start-kind k (x ∷ (y ∷ ys)) h = cond-both (λ (q : ℕ). q < 4) (eqb (firstOf k y) x) y x (h 1) (h 0)
+
+pub range-kind : (k : ℕ) (ks : List ℕ) (from : ℕ) → ((i : ℕ) → getD ks i 0 < 4) → partAt k ks from .qualifier < 4
 unfolding partAt qualifierAt
-range-kind most ks zero h = h 1
-range-kind most ks (suc from) h = h (suc from)
+range-kind k ks zero h = start-kind k ks h
+range-kind k ks (suc from) h = h (suc from)

@@ -12,9 +12,8 @@ use Rattle.rules.specs.Block.{bit}
 use Rattle.rules.specs.Field.{Pair, rds, drm, numberIn, kindIn}
 use Rattle.rules.specs.Collecting.{IdSet, keyWidth, mostIds}
 use Rattle.lists.specs.Kinds.{hasKind}
-use Rattle.pieces.specs.Air.{cut, deadLink, pieces, pieceMost}
+use Rattle.pieces.specs.Air.{cut, deadLink, pieces}
 use Rattle.rules.proofs.Basics.{cases-bool}
-use Rattle.pieces.proofs.Cutting.{most-room}
 use Rattle.lists.specs.declared.IdList.{IdList}
 use Rattle.lists.specs.Stored.{Holds}
 use Rattle.lists.proofs.Pairs.{length-pairs-in}
@@ -25,10 +24,10 @@ use Rattle.air.specs.Parts.{partAt, pieceIn, Fitting}
 use Rattle.air.proofs.Ranges.{left, left-next, left-end, range-ahead, range-inside, range-few, range-kind, kinds-small}
 
 -- a range of a list's arrays is the next piece
-pub record Turn (most : ℕ) (l : IdList) (from : ℕ) (p : Part) : Type 0 where
+pub record Turn (key : ℕ) (l : IdList) (from : ℕ) (p : Part) : Type 0 where
   pub ahead : from < p .to
   pub inside : p .to ≤ l .len
-  pub next : left most (setIn l .items) from ≡ pieceIn (l .numbers) p ∷ left most (setIn l .items) (p .to)
+  pub next : left key (setIn l .items) from ≡ pieceIn (l .numbers) p ∷ left key (setIn l .items) (p .to)
 
 -- a list with arrays of the right length
 module _ (l : IdList) (numbers-long : length (l .numbers) ≡ mostIds) (kinds-long : length (l .kinds) ≡ mostIds) (short : l .len ≤ mostIds) where
@@ -50,52 +49,45 @@ module _ (l : IdList) (numbers-long : length (l .numbers) ≡ mostIds) (kinds-lo
   -- ---- the pieces from a place on
 
   -- there are none from the end on
-  pub left-none : (most from : ℕ) → from ≤ l .len → l .len ≤ from → left most (setIn l .items) from ≡ []
-  left-none most from h g =
+  pub left-none : (key from : ℕ) → from ≤ l .len → l .len ≤ from → left key (setIn l .items) from ≡ []
+  left-none key from h g =
       let e : from ≡ length (setIn l .items) = omega (arith, set-length) in
-      ap (left most (setIn l .items)) e ∙ left-end most (setIn l .items)
+      ap (left key (setIn l .items)) e ∙ left-end key (setIn l .items)
 
-  module _ (key from : ℕ) (p : Part) (h : from < l .len) (e : p ≡ partAt (pieceMost (keyWidth key)) (take (l .len) (l .kinds)) from) where
-    room : 1 < pieceMost (keyWidth key)
-    room = omega (arith, most-room (keyWidth key))
-
+  module _ (key from : ℕ) (p : Part) (h : from < l .len) (e : p ≡ partAt key (take (l .len) (l .kinds)) from) where
     within : from < length (take (l .len) (l .kinds))
     within = rw kinds-length h
 
     part-ahead : from < p .to
-    part-ahead = rw e (range-ahead (pieceMost (keyWidth key)) (take (l .len) (l .kinds)) from (omega (arith, room)) within)
+    part-ahead = rw e (range-ahead key (take (l .len) (l .kinds)) from within)
 
     part-inside : p .to ≤ l .len
     part-inside =
         omega
-        (arith, kinds-length, ap (λ (x : Part). x .to) e, range-inside (pieceMost (keyWidth key)) (take (l .len) (l .kinds)) from (omega (arith, room)) within)
+        (arith, kinds-length, ap (λ (x : Part). x .to) e, range-inside key (take (l .len) (l .kinds)) from within)
 
-    part-next : left (pieceMost (keyWidth key)) (setIn l .items) from
-        ≡ pieceIn (l .numbers) p ∷ left (pieceMost (keyWidth key)) (setIn l .items) (p .to)
+    part-next : left key (setIn l .items) from ≡ pieceIn (l .numbers) p ∷ left key (setIn l .items) (p .to)
     unfolding pieceIn
     part-next =
-        let most : ℕ = pieceMost (keyWidth key) in
         let items : List Pair = setIn l .items in
-        let same : partAt most (map kindIn items) from ≡ p = ap (λ (ks : List ℕ). partAt most ks from) set-kinds ∙ sym e in
+        let same : partAt key (map kindIn items) from ≡ p = ap (λ (ks : List ℕ). partAt key ks from) set-kinds ∙ sym e in
         let ns : slice (p .from) (p .to) (map numberIn items) ≡ slice (p .from) (p .to) (l .numbers) =
         ap (slice (p .from) (p .to)) set-numbers ∙ ap (drop (p .from)) (take-take (p .to) (l .len) (l .numbers) part-inside) in
-        left-next most items from room (rw set-length h)
-        ∙ ap (λ (x : Part). pieceIn (map numberIn items) x ∷ left most items (x .to)) same
-        ∙ λ i. record { more = not (eqb (p .from) 0); qualifier = p .qualifier; numbers = ns i } ∷ left most items (p .to)
+        left-next key items from (rw set-length h)
+        ∙ ap (λ (x : Part). pieceIn (map numberIn items) x ∷ left key items (x .to)) same
+        ∙ λ i. record { more = not (eqb (p .from) 0); qualifier = p .qualifier; numbers = ns i } ∷ left key items (p .to)
 
     -- the range there is the next piece
-    pub part-turn : Turn (pieceMost (keyWidth key)) l from p
+    pub part-turn : Turn key l from p
     part-turn = record { ahead = part-ahead; inside = part-inside; next = part-next }
 
 -- ---- a list that holds what it should for its key
 
 pub part-fits : (key : ℕ) (l : IdList) → length (l .numbers) ≡ mostIds → length (l .kinds) ≡ mostIds → Holds key l
-    → (from : ℕ) (p : Part) → from < l .len → p ≡ partAt (pieceMost (keyWidth key)) (take (l .len) (l .kinds)) from → Fitting key mostIds p
+    → (from : ℕ) (p : Part) → from < l .len → p ≡ partAt key (take (l .len) (l .kinds)) from → Fitting key mostIds p
 unfolding partAt setIn
 part-fits key l nl kl holds from p h e =
     let f : Facts key l = holds-facts key l holds in
-    let m : ℕ = pieceMost (keyWidth key) in
-    let room : 5 < m = most-room (keyWidth key) in
     let ks : List ℕ = take (l .len) (l .kinds) in
     let small : (i : ℕ) → getD ks i 0 < 4 =
     subst (λ (xs : List ℕ). (i : ℕ) → getD xs i 0 < 4) (set-kinds l nl kl (f .short))
@@ -104,10 +96,10 @@ part-fits key l nl kl holds from p h e =
     let in' : from < length ks = omega arith in
     subst (Fitting key mostIds) (sym e)
     (record {
-      ahead = omega (arith, range-ahead m ks from (omega arith) in');
-      inside = omega (arith, range-inside m ks from (omega arith) in', f .short);
-      few = range-few m ks from (omega arith) in';
-      kind = range-kind m ks from small;
+      ahead = omega (arith, range-ahead key ks from in');
+      inside = omega (arith, range-inside key ks from in', f .short);
+      few = range-few key ks from in';
+      kind = range-kind key ks from small;
     })
 
 -- ---- how many pieces
@@ -116,13 +108,13 @@ dead-length : (k : ℕ) (named : Bool) (ps : List Pair) → length (deadLink k n
 unfolding deadLink bit
 dead-length k named ps = cases-bool (named && not (hasKind k ps)) (λ e. rw e) (λ e. rw e)
 
-pub pieces-length : (most : ℕ) (l : IdSet) → length (pieces most l)
-    ≡ length (cut most (l .items)) + bit (eqb (l .named % 2) 1 && not (hasKind rds (l .items))) + bit (eqb (l .named / 2) 1 && not (hasKind drm (l .items)))
+pub pieces-length : (k : ℕ) (l : IdSet) → length (pieces k l)
+    ≡ length (cut k (l .items)) + bit (eqb (l .named % 2) 1 && not (hasKind rds (l .items))) + bit (eqb (l .named / 2) 1 && not (hasKind drm (l .items)))
 unfolding pieces
-pieces-length most l =
+pieces-length k l =
     rw (
-      length-append (cut most (l .items) ++ deadLink rds (eqb (l .named % 2) 1) (l .items)) (deadLink drm (eqb (l .named / 2) 1) (l .items)),
-      length-append (cut most (l .items)) (deadLink rds (eqb (l .named % 2) 1) (l .items)),
+      length-append (cut k (l .items) ++ deadLink rds (eqb (l .named % 2) 1) (l .items)) (deadLink drm (eqb (l .named / 2) 1) (l .items)),
+      length-append (cut k (l .items)) (deadLink rds (eqb (l .named % 2) 1) (l .items)),
       dead-length rds (eqb (l .named % 2) 1) (l .items),
       dead-length drm (eqb (l .named / 2) 1) (l .items),
     )

@@ -6,7 +6,7 @@ use mathlib.Core.List.{List, [], _∷_}
 use lib.ListN.{getD}
 use lib.Seq.{slice}
 use lib.Dec.{eqb}
-use Rattle.rules.specs.Collecting.{keyWidth}
+use Rattle.rules.specs.Collecting.{keyWidth, firstOf}
 use Rattle.pieces.specs.Air.{Piece, pieceMost}
 use Rattle.air.specs.declared.Part.{Part}
 
@@ -15,20 +15,25 @@ unfoldable pub run : ℕ → List ℕ → ℕ
 run k [] = 0
 run k (x ∷ xs) = cond (eqb x k) (suc (run k xs)) 0
 
--- the qualifier of the piece that begins at a place, by the kinds of the set: the kind there, but of the start the second's,
--- or 0 if there is one identifier
-unfoldable pub qualifierAt : List ℕ → ℕ → ℕ
-qualifierAt ks zero = getD ks 1 0
-qualifierAt ks (suc from) = getD ks (suc from) 0
+-- the qualifier of a key's start, by the kinds of the set
+unfoldable pub startBy : ℕ → List ℕ → ℕ
+startBy k [] = 0
+startBy k (x ∷ []) = firstOf k x
+startBy k (x ∷ (y ∷ ys)) = cond (eqb (firstOf k y) x) y x
+
+-- the qualifier of the piece that begins at a place: the kind there, but for the start
+unfoldable pub qualifierAt : ℕ → List ℕ → ℕ → ℕ
+qualifierAt k ks zero = startBy k ks
+qualifierAt k ks (suc from) = getD ks (suc from) 0
 
 -- the piece that begins at a place: the identifier there, and the run of the qualifier's kind that follows, as far as there is
 -- room
 unfoldable pub partAt : ℕ → List ℕ → ℕ → Part
-partAt most ks from =
+partAt k ks from =
     record {
       from = from;
-      to = from + 1 + run (qualifierAt ks from) (slice (from + 1) (from + most) ks);
-      qualifier = qualifierAt ks from;
+      to = from + 1 + run (qualifierAt k ks from) (slice (from + 1) (from + pieceMost (keyWidth k)) ks);
+      qualifier = qualifierAt k ks from;
     }
 
 -- the piece that a range stands for: a start if it begins at place 0

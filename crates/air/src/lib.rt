@@ -13,7 +13,7 @@ ghost use Rattle.sets.specs.Stored.{EachHolds};
 ghost use Rattle.sets.specs.Shown.{setIn, shownAs, setsFrom};
 ghost use Rattle.out.specs.Put.{Puts};
 ghost use Rattle.out.specs.Answer.{Outputs};
-ghost use Rattle.air.specs.Parts.{run, qualifierAt, partAt, pieceIn, Fitting};
+ghost use Rattle.air.specs.Parts.{run, startBy, qualifierAt, partAt, pieceIn, Fitting};
 use lists::IdList;
 use lists::is_dead;
 use out::Written;
@@ -52,17 +52,33 @@ fn most_of(key: u32) -> usize
     }
 }
 
+// The qualifier of a start: the next identifier's kind, where a start of that kind begins with the first; else the
+// first's own, which is 0 with OE 0.
+fn start_qualifier(kinds: &[u8], len: usize, key: u32) -> u8
+    requires { ⌜ (0 < len) × (len ≤ length (now kinds)) ⌝ }
+    ensures { λ r. ⌜ r ≡ startBy key (take len (now (kinds .entry))) ⌝ }
+{
+    let first = kinds[0];
+    if len < 2 {
+        return lists::first_of(key, first);
+    }
+    let next = kinds[1];
+    if lists::first_of(key, next) == first {
+        next
+    } else {
+        first
+    }
+}
+
 // The qualifier of the piece that begins at a place.
-fn qualifier_at(kinds: &[u8], len: usize, from: usize) -> u8
+fn qualifier_at(kinds: &[u8], len: usize, from: usize, key: u32) -> u8
     requires { ⌜ (from < len) × (len ≤ length (now kinds)) ⌝ }
-    ensures { λ r. ⌜ r ≡ qualifierAt (take len (now (kinds .entry))) from ⌝ }
+    ensures { λ r. ⌜ r ≡ qualifierAt key (take len (now (kinds .entry))) from ⌝ }
 {
     if 0 < from {
         kinds[from]
-    } else if 1 < len {
-        kinds[1]
     } else {
-        0
+        start_qualifier(kinds, len, key)
     }
 }
 
@@ -84,10 +100,10 @@ fn run_end(kinds: &[u8], from: usize, end: usize, kind: u8) -> usize
 // The piece that begins at a place.
 fn part_at(kinds: &[u8], len: usize, from: usize, key: u32) -> Part
     requires { ⌜ (from < len) × (len ≤ length (now kinds)) ⌝ }
-    ensures { λ r. ⌜ r ≡ partAt (pieceMost (keyWidth key)) (take len (now (kinds .entry))) from ⌝ }
+    ensures { λ r. ⌜ r ≡ partAt key (take len (now (kinds .entry))) from ⌝ }
 {
     let end = lists::least(len, from + most_of(key));
-    let qualifier = qualifier_at(kinds, len, from);
+    let qualifier = qualifier_at(kinds, len, from, key);
     let to = run_end(kinds, from + 1, end, qualifier);
     Part {
         from,
@@ -99,7 +115,7 @@ fn part_at(kinds: &[u8], len: usize, from: usize, key: u32) -> Part
 // How many pieces the identifiers of a list are cut into.
 fn cut_count(list: IdList, key: u32) -> usize
     requires { ⌜ list .len ≤ mostIds ⌝ }
-    ensures { λ r. ⌜ (r ≡ length (cut (pieceMost (keyWidth key)) (setIn list .items))) × (r ≤ list .len) ⌝ }
+    ensures { λ r. ⌜ (r ≡ length (cut key (setIn list .items))) × (r ≤ list .len) ⌝ }
 {
     let len = list.len;
     let mut n: usize = 0;
@@ -115,7 +131,7 @@ fn cut_count(list: IdList, key: u32) -> usize
 // How many pieces a set is cut into.
 fn piece_count(list: IdList, key: u32) -> usize
     requires { ⌜ list .len ≤ mostIds ⌝ }
-    ensures { λ r. ⌜ (r ≡ length (pieces (pieceMost (keyWidth key)) (setIn list))) × (r ≤ 130) ⌝ }
+    ensures { λ r. ⌜ (r ≡ length (pieces key (setIn list))) × (r ≤ 130) ⌝ }
 {
     let len = list.len;
     let rds = list.named % 2 == 1;
@@ -222,7 +238,7 @@ fn put_block(out: &mut [u8], at: usize, key: u32, on: bool, part: Part, numbers:
 // The blocks of a list's identifiers at a place, and the place after them.
 fn put_cut(out: &mut [u8], at: usize, key: u32, on: bool, list: IdList) -> usize
     requires { ⌜ Holds key list ⌝ }
-    ensures { λ r. ⌜ Puts (now (out .entry)) at (blocksOf key on (cut (pieceMost (keyWidth key)) (setIn list .items))) (now (out .exit)) r ⌝ }
+    ensures { λ r. ⌜ Puts (now (out .entry)) at (blocksOf key on (cut key (setIn list .items))) (now (out .exit)) r ⌝ }
 {
     let len = list.len;
     let mut p = lists::least(at, out.len());

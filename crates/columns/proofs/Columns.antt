@@ -6,14 +6,13 @@ use native.Mathlib.Omega.{arith}
 use mathlib.Core.Path.{_≡_, refl, ap, _∙_}
 use mathlib.Core.Bool.{Bool, true, false, not, cond, _&&_, _||_}
 use mathlib.Core.List.{List, [], _∷_, _++_}
-use mathlib.Core.Option.{Option, none, some}
 use lib.Dec.{ltb, eqb}
 use borrow.Author.Tests.{eqb-true, ne-eqb}
 use Rattle.rules.specs.Field.{Pair, dab, rds, drm}
-use Rattle.rules.specs.Collecting.{IdSet, Held, Entries, Content, Shown, showing, shownSets, keyWidth, kindNamed, pairsMeet, ifThere, entryMeets, entriesMeet, meets}
+use Rattle.rules.specs.Collecting.{Content, Shown, shownSets, keyWidth, kindNamed, pairsMeet, meets}
 use Rattle.lists.specs.Kinds.{hasKind}
 use Rattle.rules.proofs.Basics.{cases-bool, and-left, and-right, Every, every-append}
-use Rattle.rules.proofs.TableRules.{set-rules, entry-rules, table-rules}
+use Rattle.rules.proofs.TableRules.{set-rules, each-shown}
 use Rattle.columns.specs.Columns.{Cell, blank, code, dead, Row, rowOf, codeRows, deadRows, rowsOf, codeIn, codesIn, numbersOf, standsIn, cellsIn}
 
 -- ---- one cell in a row
@@ -152,18 +151,6 @@ drm-column w s m =
 abbrev pub DrmColumn : Shown → Type 0
 DrmColumn s = codesIn (λ (r : Row). r .drms) (rowsOf s) ≡ numbersOf drm (s .set .items)
 
-drm-shown : (e : Held) (o : Option IdSet) (rest : List Shown) → ifThere (e .key) o ≡ true → Every DrmColumn rest → Every DrmColumn (showing e o rest)
-unfolding showing ifThere
-drm-shown e none rest m h = h
-drm-shown e (some l) rest m h =
-    (drm-column (keyWidth (e .key)) (record { key = e .key; on = e .state; set = l }) (set-rules (e .key) l .0 m .pairs), h)
-
-drm-entries : (c : Entries) → entriesMeet c ≡ true → Every DrmColumn (shownSets c)
-unfolding shownSets entriesMeet
-drm-entries [] m = tt
-drm-entries (e ∷ es) m =
-    drm-shown e (e .shown) (shownSets es) (entry-rules e .0 (and-left (entryMeets e) (entriesMeet es) m) .shown) (drm-entries es (and-right (entryMeets e) (entriesMeet es) m))
-
 -- as the rules hold of every set that a table shows
 pub drm-columns : (c : Content) → meets c ≡ true → Every DrmColumn (shownSets (c .sets))
-drm-columns c m = drm-entries (c .sets) (table-rules (c .sets) .0 m .entries)
+drm-columns = each-shown DrmColumn (λ s m. drm-column (keyWidth (s .key)) s (set-rules (s .key) (s .set) .0 m .pairs))

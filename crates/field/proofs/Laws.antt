@@ -10,9 +10,11 @@ use lib.ListN.{length, getD, drop, drop-of-length-le}
 use lib.Seq.{drop-cons, drop-drop}
 use lib.Dec.{leb, ltb, eqb}
 use borrow.Author.Tests.{ltb-false, lt-leb}
-use Rattle.rules.specs.Field.{pair, width, identifiers, shortField, listField, listBytes, fieldAt, keyOf, hasList, isContinuation, firstKind, pairsOf, wrongValue, emptyStart}
+use Rattle.rules.specs.Field.{pair, dab, width, identifiers, shortField, listField, listBytes, fieldAt, keyOf, hasList, isContinuation, firstKind, pairsOf, wrongValue, emptyStart}
 use Rattle.rules.proofs.Taken.{length-identifiers}
-use Rattle.rules.proofs.Basics.{not-first, cond-ap}
+use Rattle.rules.proofs.Basics.{cases-bool, not-first, cond-both, cond-ap}
+use Rattle.field.specs.declared.Service.{Service}
+use Rattle.field.specs.declared.Identifier.the-variants.{Dab}
 use Rattle.field.specs.declared.Field.{Field}
 use Rattle.field.specs.declared.FieldStep.the-variants.{Found, End, Wrong}
 use Rattle.field.specs.FieldStep.{headOf, fieldStepAt, meaning, found, keyIn, hasListIn, continues, wrongIn, emptyIn, numberAt, kindAt, ofKind, identifierAt, pairOf, pairsFrom}
@@ -122,7 +124,7 @@ module _ (body : List ℕ) (f : Field) where
 -- the kind of a start's first is one that there is, where the qualifier is
 first-range : (oe q : ℕ) → q < 4 → (q ≡ 2 → ⊥) → (firstKind oe q < 4) × (firstKind oe q ≡ 2 → ⊥)
 unfolding firstKind
-first-range oe q h not = omega arith
+first-range oe q h not = cond-both (λ (k : ℕ). (k < 4) × (k ≡ 2 → ⊥)) (eqb oe 1) q dab (h, not) (omega arith)
 
 -- and so is the kind at an index
 kindAt-range : (f : Field) (i : ℕ) → f .qualifier < 4 → (f .qualifier ≡ 2 → ⊥) → (kindAt f i < 4) × (kindAt f i ≡ 2 → ⊥)
@@ -136,6 +138,15 @@ kindAt-range f i h not = go (eqb (f .cn) 1) (eqb i 0)
     go true d = (h, not)
     go false true = first-range (f .oe) (f .qualifier) h not
     go false false = (h, not)
+
+-- the guard, by the type: with OE 0 the first identifier of a start is a DAB service, whatever its qualifier and its number
+pub first-service : (body : List ℕ) (f : Field) → f .oe ≡ 0 → f .cn ≡ 0 → (s : Service) × (identifierAt body f 0 ≡ Dab s)
+unfolding identifierAt kindAt firstKind ofKind
+first-service body f z c =
+    let w = width (f .pd) (f .ils) in
+    cases-bool (leb (length body) (f .from))
+    (λ e. (record { 0 = 0 }, rw e))
+    (λ e. (record { 0 = numberAt w body (f .from + 0 * w) }, rw (e, c, z)))
 
 module _ (body : List ℕ) (f : Field) where
   pub pairs-count : length (pairsOf (meaning body f)) ≡ f .count

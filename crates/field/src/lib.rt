@@ -222,7 +222,7 @@ impl Field {
         of_kind(self.kind_at(i), number_at(body, from + i * w, w))
     }
 
-    // The kind of the i-th identifier: the first of a start is of its own, the others are of the qualifier's kind.
+    // The kind of the i-th identifier: the first of a start is as first_kind says, the others are of the qualifier's kind.
     fn kind_at(self, i: usize) -> u8
         ensures { λ r. ⌜ r ≡ kindAt self i ⌝ }
     {
@@ -236,11 +236,11 @@ impl Field {
     }
 }
 
-// The kind of a start's first identifier: a DAB service, whatever its OE and qualifier.
-fn first_kind(oe: u8, qualifier: u8) -> u8
+// The kind of a start's first identifier: with OE 0 a DAB service, with OE 1 of the qualifier's kind like the rest.
+pub fn first_kind(oe: u8, qualifier: u8) -> u8
     ensures { λ r. ⌜ r ≡ firstKind oe qualifier ⌝ }
 {
-    rules::DAB
+    if oe == 1 { qualifier } else { rules::DAB }
 }
 
 // The number that w bytes write from a place on, the highest byte first.

@@ -10,7 +10,7 @@ ghost use Prim.Native.Nat.{min, max};
 ghost use lib.ListN.{drop};
 ghost use Rattle.rules.specs.Field.{pair, namedBy};
 ghost use Rattle.rules.specs.Family.{member};
-ghost use Rattle.rules.specs.Collecting.{linkage, joinNames, isKey, keyWidth, mayBegin, kindNamed, namesMeet, pairsMeet, allDiffer};
+ghost use Rattle.rules.specs.Collecting.{linkage, joinNames, isKey, keyWidth, firstOf, mayBegin, kindNamed, namesMeet, pairsMeet, allDiffer};
 ghost use Rattle.lists.specs.Kinds.{hasKind, isDead};
 ghost use Rattle.lists.specs.Grown.{withField};
 ghost use Rattle.lists.specs.Stored.{emptyList, pairsIn, allZero, Holds, Tested};
@@ -183,11 +183,18 @@ pub fn kind_named(named: u8, kind: u8) -> bool
     }
 }
 
-// Whether a list of a key may begin with a kind.
+// The kind of the first identifier of a key's start, by the start's qualifier.
+pub fn first_of(key: u32, qualifier: u8) -> u8
+    ensures { λ r. ⌜ r ≡ firstOf key qualifier ⌝ }
+{
+    field::first_kind((key / 32768 % 2) as u8, qualifier)
+}
+
+// Whether a list of a key may begin with a kind: one that a start with that qualifier begins with.
 pub fn may_begin(key: u32, kind: u8) -> bool
     ensures { λ r. ⌜ r ≡ mayBegin key kind ⌝ }
 {
-    kind == rules::DAB
+    first_of(key, kind) == kind
 }
 
 // Whether a key's list may name these kinds.

@@ -10,35 +10,35 @@ use lib.ListN.{length, length-append}
 use lib.Dec.{ltb, eqb}
 use borrow.Author.Tests.{ltb-true, eqb-true, eqb-false, lt-ltb, eq-eqb}
 use Rattle.rules.specs.Block.{bit}
-use Rattle.rules.specs.Field.{Pair, pair, startPairs, namedBy, dab, rds, drm}
-use Rattle.rules.specs.Collecting.{IdSet, joinNames, kindNamed, pairsMeet, notEmpty, beginsRight, setMeets, keyWidth, mostIds}
+use Rattle.rules.specs.Field.{Pair, pair, firstKind, startPairs, namedBy, dab, rds, drm}
+use Rattle.rules.specs.Collecting.{IdSet, joinNames, oeOf, firstOf, mayBegin, kindNamed, pairsMeet, notEmpty, beginsRight, setMeets, keyWidth, mostIds}
 use Rattle.lists.specs.Kinds.{hasKind}
-use Rattle.pieces.specs.Air.{Piece, goesOn, pieceWith, completed, chop, cut, deadLink, pieces, pieceMost}
-use Rattle.rules.proofs.Basics.{cases-bool, and-left, and-right, and-both, or-cases, or-false-left, or-false-right, true-false, bit-small, Every, every-append, map-append}
+use Rattle.pieces.specs.Air.{Piece, goesOn, pieceWith, completed, chop, startQualifier, cut, deadLink, pieces, pieceMost}
+use Rattle.rules.proofs.Basics.{cases-bool, cond-both, and-left, and-right, and-both, or-cases, or-false-left, or-false-right, true-false, bit-small, Every, every-append, map-append}
 use Rattle.rules.proofs.TableRules.{dab-named, begins-dab, pair-rules, set-rules, kind-cases, join-mod, join-div, names-eq, join-assoc, join-again, join-zero, join-to-zero}
 
 -- ---- the pairs
 
--- the pairs that a piece stands for: a start's first is a DAB service
-unfoldable pub piecePairs : Piece → List Pair
-piecePairs c = cond (c .more) (map (pair (c .qualifier)) (c .numbers)) (startPairs dab (c .qualifier) (c .numbers))
+-- the pairs that a piece of a key's set stands for
+unfoldable pub piecePairs : ℕ → Piece → List Pair
+piecePairs k c = cond (c .more) (map (pair (c .qualifier)) (c .numbers)) (startPairs (firstOf k (c .qualifier)) (c .qualifier) (c .numbers))
 
 -- the pairs of pieces one after the other
-unfoldable pub flat : List Piece → List Pair
-flat [] = []
-flat (c ∷ cs) = piecePairs c ++ flat cs
+unfoldable pub flat : ℕ → List Piece → List Pair
+flat k [] = []
+flat k (c ∷ cs) = piecePairs k c ++ flat k cs
 
-start-snoc : (q n : ℕ) (ns : List ℕ) → 0 < length ns → startPairs dab q (ns ++ n ∷ []) ≡ startPairs dab q ns ++ pair q n ∷ []
+start-snoc : (first q n : ℕ) (ns : List ℕ) → 0 < length ns → startPairs first q (ns ++ n ∷ []) ≡ startPairs first q ns ++ pair q n ∷ []
 unfolding startPairs
-start-snoc q n [] h = absurd (omega arith)
-start-snoc q n (m ∷ ns) h = ap (λ (r : List Pair). pair dab m ∷ r) (map-append (pair q) ns (n ∷ []))
+start-snoc first q n [] h = absurd (omega arith)
+start-snoc first q n (m ∷ ns) h = ap (λ (r : List Pair). pair first m ∷ r) (map-append (pair q) ns (n ∷ []))
 
-pairs-snoc : (more : Bool) (q n : ℕ) (ns : List ℕ) → 0 < length ns
-    → piecePairs (record { more = more; qualifier = q; numbers = ns ++ n ∷ [] })
-    ≡ piecePairs (record { more = more; qualifier = q; numbers = ns }) ++ pair q n ∷ []
+pairs-snoc : (k : ℕ) (more : Bool) (q n : ℕ) (ns : List ℕ) → 0 < length ns
+    → piecePairs k (record { more = more; qualifier = q; numbers = ns ++ n ∷ [] })
+    ≡ piecePairs k (record { more = more; qualifier = q; numbers = ns }) ++ pair q n ∷ []
 unfolding piecePairs
-pairs-snoc true q n ns h = map-append (pair q) ns (n ∷ [])
-pairs-snoc false q n ns h = start-snoc q n ns h
+pairs-snoc k true q n ns h = map-append (pair q) ns (n ∷ [])
+pairs-snoc k false q n ns h = start-snoc (firstOf k q) q n ns h
 
 -- an identifier goes into a piece only if it is of its kind and there is room
 goes-kind : (most : ℕ) (c : Piece) (p : Pair) → goesOn most c p ≡ true → p .kind ≡ c .qualifier
@@ -56,15 +56,16 @@ goes-on most c p e h =
     and-both (eqb (p .kind) (c .qualifier)) (ltb (length (c .numbers)) most) (eq-eqb (p .kind) (c .qualifier) e) (lt-ltb (length (c .numbers)) most h)
 
 -- one more identifier of its own kind, or a new piece with it
-with-pairs : (c : Piece) (p : Pair) → p .kind ≡ c .qualifier → 0 < length (c .numbers) → piecePairs (pieceWith true c p) ≡ piecePairs c ++ p ∷ []
+with-pairs : (k : ℕ) (c : Piece) (p : Pair) → p .kind ≡ c .qualifier → 0 < length (c .numbers)
+    → piecePairs k (pieceWith true c p) ≡ piecePairs k c ++ p ∷ []
 unfolding pieceWith pair
-with-pairs c p e h =
-    pairs-snoc (c .more) (c .qualifier) (p .number) (c .numbers) h
-    ∙ ap (λ (q : ℕ). piecePairs c ++ (record { kind = q; number = p .number }) ∷ []) (sym e)
+with-pairs k c p e h =
+    pairs-snoc k (c .more) (c .qualifier) (p .number) (c .numbers) h
+    ∙ ap (λ (q : ℕ). piecePairs k c ++ (record { kind = q; number = p .number }) ∷ []) (sym e)
 
-new-pairs : (c : Piece) (p : Pair) → piecePairs (pieceWith false c p) ≡ p ∷ []
+new-pairs : (k : ℕ) (c : Piece) (p : Pair) → piecePairs k (pieceWith false c p) ≡ p ∷ []
 unfolding piecePairs pieceWith pair
-new-pairs c p = refl
+new-pairs k c p = refl
 
 with-begun : (c : Piece) (p : Pair) → 0 < length (pieceWith true c p .numbers)
 unfolding pieceWith
@@ -75,45 +76,53 @@ unfolding pieceWith
 new-begun c p = omega arith
 
 -- the pairs of a begun piece and of those that follow are its own and those that were left
-pub flat-chop : (most : ℕ) (c : Piece) (ps : List Pair) → 0 < length (c .numbers) → flat (chop most c ps) ≡ piecePairs c ++ ps
+pub flat-chop : (k most : ℕ) (c : Piece) (ps : List Pair) → 0 < length (c .numbers) → flat k (chop most c ps) ≡ piecePairs k c ++ ps
 unfolding flat chop completed
-flat-chop most c [] h = refl
-flat-chop most c (p ∷ ps) h =
-    let going : flat (chop most (pieceWith true c p) ps) ≡ piecePairs (pieceWith true c p) ++ ps =
-    flat-chop most (pieceWith true c p) ps (with-begun c p) in
-    let ending : flat (chop most (pieceWith false c p) ps) ≡ piecePairs (pieceWith false c p) ++ ps =
-    flat-chop most (pieceWith false c p) ps (new-begun c p) in
+flat-chop k most c [] h = refl
+flat-chop k most c (p ∷ ps) h =
+    let going : flat k (chop most (pieceWith true c p) ps) ≡ piecePairs k (pieceWith true c p) ++ ps =
+    flat-chop k most (pieceWith true c p) ps (with-begun c p) in
+    let ending : flat k (chop most (pieceWith false c p) ps) ≡ piecePairs k (pieceWith false c p) ++ ps =
+    flat-chop k most (pieceWith false c p) ps (new-begun c p) in
     cases-bool (goesOn most c p)
-    (λ e. rw (e, going, with-pairs c p (goes-kind most c p e) h) (append-assoc (piecePairs c) (p ∷ []) ps))
-    (λ e. rw (e, ending, new-pairs c p))
+    (λ e. rw (e, going, with-pairs k c p (goes-kind most c p e) h) (append-assoc (piecePairs k c) (p ∷ []) ps))
+    (λ e. rw (e, ending, new-pairs k c p))
 
--- all the pairs of a set that begins as it may come back, in order: it begins with a DAB service
-pub flat-cut : (key most : ℕ) (ps : List Pair) → beginsRight key ps ≡ true → flat (cut most ps) ≡ ps
+-- the first of a start with its qualifier is of its own kind, where it may begin the set
+start-back : (k : ℕ) (p : Pair) (ps : List Pair) → mayBegin k (p .kind) ≡ true → firstOf k (startQualifier k p ps) ≡ p .kind
+unfolding mayBegin startQualifier
+start-back k p [] h = let e = eqb-true (firstOf k (p .kind)) (p .kind) h in ap (firstOf k) e ∙ e
+start-back k p (q ∷ qs) h =
+    cases-bool (eqb (firstOf k (q .kind)) (p .kind))
+    (λ e. rw e (eqb-true (firstOf k (q .kind)) (p .kind) e))
+    (λ e. rw e (eqb-true (firstOf k (p .kind)) (p .kind) h))
+
+-- all the pairs of a set that begins as it may come back, in order
+pub flat-cut : (k : ℕ) (ps : List Pair) → beginsRight k ps ≡ true → flat k (cut k ps) ≡ ps
 unfolding flat cut beginsRight piecePairs startPairs pair
-flat-cut key most [] h = refl
-flat-cut key most (p ∷ []) h = ap (λ (k : ℕ). (record { kind = k; number = p .number }) ∷ []) (sym (begins-dab key (p .kind) h))
-flat-cut key most (p ∷ (q ∷ qs)) h =
-    flat-chop most (record { more = false; qualifier = q .kind; numbers = p .number ∷ q .number ∷ [] }) qs (omega arith)
-    ∙ ap (λ (k : ℕ). (record { kind = k; number = p .number }) ∷ q ∷ qs) (sym (begins-dab key (p .kind) h))
+flat-cut k [] h = refl
+flat-cut k (p ∷ ps) h =
+    flat-chop k (pieceMost (keyWidth k)) (record { more = false; qualifier = startQualifier k p ps; numbers = p .number ∷ [] }) ps (omega arith)
+    ∙ ap (λ (kind : ℕ). (record { kind = kind; number = p .number }) ∷ ps) (start-back k p ps h)
 
-pub flat-append : (cs ds : List Piece) → flat (cs ++ ds) ≡ flat cs ++ flat ds
+pub flat-append : (k : ℕ) (cs ds : List Piece) → flat k (cs ++ ds) ≡ flat k cs ++ flat k ds
 unfolding flat
-flat-append [] ds = refl
-flat-append (c ∷ cs) ds = rw (flat-append cs ds) (sym (append-assoc (piecePairs c) (flat cs) (flat ds)))
+flat-append k [] ds = refl
+flat-append k (c ∷ cs) ds = rw (flat-append k cs ds) (sym (append-assoc (piecePairs k c) (flat k cs) (flat k ds)))
 
 -- a dead link stands for no pair
-flat-dead : (k : ℕ) (named : Bool) (ps : List Pair) → flat (deadLink k named ps) ≡ []
+flat-dead : (key k : ℕ) (named : Bool) (ps : List Pair) → flat key (deadLink k named ps) ≡ []
 unfolding flat deadLink piecePairs
-flat-dead k named ps = cases-bool (named && not (hasKind k ps)) (λ e. rw e) (λ e. rw e)
+flat-dead key k named ps = cases-bool (named && not (hasKind k ps)) (λ e. rw e) (λ e. rw e)
 
 -- the pieces of a set stand for its pairs in order
-pub flat-pieces : (key most : ℕ) (l : IdSet) → beginsRight key (l .items) ≡ true → flat (pieces most l) ≡ l .items
+pub flat-pieces : (k : ℕ) (l : IdSet) → beginsRight k (l .items) ≡ true → flat k (pieces k l) ≡ l .items
 unfolding pieces
-flat-pieces key most l h =
-    let a : List Piece = cut most (l .items) in
+flat-pieces k l h =
+    let a : List Piece = cut k (l .items) in
     let r : List Piece = deadLink rds (eqb (l .named % 2) 1) (l .items) in
     let d : List Piece = deadLink drm (eqb (l .named / 2) 1) (l .items) in
-    rw (flat-append (a ++ r) d, flat-append a r, flat-dead rds (eqb (l .named % 2) 1) (l .items), flat-dead drm (eqb (l .named / 2) 1) (l .items), flat-cut key most (l .items) h)
+    rw (flat-append k (a ++ r) d, flat-append k a r, flat-dead k rds (eqb (l .named % 2) 1) (l .items), flat-dead k drm (eqb (l .named / 2) 1) (l .items), flat-cut k (l .items) h)
     (append-nil (l .items ++ []) ∙ append-nil (l .items))
 
 -- ---- the start and the continuations
@@ -151,13 +160,11 @@ chop-shape most c (p ∷ ps) =
       goes = shape-more (chop most (pieceWith false c p) ps) ending;
     }))
 
-cut-shape : (most : ℕ) (ps : List Pair) → notEmpty ps ≡ true → Shape false (cut most ps)
+cut-shape : (k : ℕ) (ps : List Pair) → notEmpty ps ≡ true → Shape false (cut k ps)
 unfolding cut notEmpty
-cut-shape most [] h = true-false h refl
-cut-shape most (p ∷ []) h =
-    record { first = record { more = false; qualifier = 0; numbers = p .number ∷ [] }; others = []; made = refl; begins = refl; goes = tt }
-cut-shape most (p ∷ (q ∷ qs)) h =
-    chop-shape most (record { more = false; qualifier = q .kind; numbers = p .number ∷ q .number ∷ [] }) qs
+cut-shape k [] h = true-false h refl
+cut-shape k (p ∷ ps) h =
+    chop-shape (pieceMost (keyWidth k)) (record { more = false; qualifier = startQualifier k p ps; numbers = p .number ∷ [] }) ps
 
 dead-shape : (k : ℕ) (named : Bool) (ps : List Pair) → Every IsMore (deadLink k named ps)
 unfolding deadLink
@@ -174,17 +181,26 @@ shape-append more cs ds s h =
     }
 
 -- the first piece of a set is a start, and all others are continuations
-pub pieces-shape : (most : ℕ) (l : IdSet) → notEmpty (l .items) ≡ true → Shape false (pieces most l)
+pub pieces-shape : (k : ℕ) (l : IdSet) → notEmpty (l .items) ≡ true → Shape false (pieces k l)
 unfolding pieces
-pieces-shape most l h =
-    let a : List Piece = cut most (l .items) in
+pieces-shape k l h =
+    let a : List Piece = cut k (l .items) in
     let r : List Piece = deadLink rds (eqb (l .named % 2) 1) (l .items) in
     let d : List Piece = deadLink drm (eqb (l .named / 2) 1) (l .items) in
     shape-append false (a ++ r) d
-    (shape-append false a r (cut-shape most (l .items) h) (dead-shape rds (eqb (l .named % 2) 1) (l .items)))
+    (shape-append false a r (cut-shape k (l .items) h) (dead-shape rds (eqb (l .named % 2) 1) (l .items)))
     (dead-shape drm (eqb (l .named / 2) 1) (l .items))
 
 -- ---- the limits of a piece
+
+-- a piece has room for 6 identifiers at least, and 12 at most
+pub most-room : (w : ℕ) → 5 < pieceMost w
+unfolding pieceMost
+most-room w = cases-bool (eqb w 4) (λ e. rw e (omega arith)) (λ e. rw e (cases-bool (eqb w 3) (λ f. rw f (omega arith)) (λ f. rw f (omega arith))))
+
+pub most-small : (w : ℕ) → pieceMost w ≤ 12
+unfolding pieceMost
+most-small w = cases-bool (eqb w 4) (λ e. rw e (omega arith)) (λ e. rw e (cases-bool (eqb w 3) (λ f. rw f (omega arith)) (λ f. rw f (omega arith))))
 
 -- every number is below this
 abbrev pub Below : ℕ → List ℕ → Type 0
@@ -197,6 +213,16 @@ pub record PieceMeets (w named most : ℕ) (c : Piece) : Type 0 where
   pub within : Below (256 ^ w) (c .numbers)
   pub kind : kindNamed named (c .qualifier) ≡ true
   pub begun : c .more ≡ false → 0 < length (c .numbers)
+
+-- the qualifier of a start is one of its identifiers' kinds, or 0
+start-named : (named k : ℕ) (p : Pair) (ps : List Pair) (w : ℕ) → pairsMeet w named (p ∷ ps) ≡ true → kindNamed named (startQualifier k p ps) ≡ true
+unfolding startQualifier firstOf firstKind
+start-named named k p [] w h =
+    cond-both (λ (q : ℕ). kindNamed named q ≡ true) (eqb (oeOf k) 1) (p .kind) dab (pair-rules w named p [] .0 h .kind) (dab-named named)
+start-named named k p (q ∷ qs) w h =
+    let r = pair-rules w named p (q ∷ qs) .0 h in
+    cond-both (λ (x : ℕ). kindNamed named x ≡ true) (eqb (firstOf k (q .kind)) (p .kind)) (q .kind) (p .kind)
+    (pair-rules w named q qs .0 (r .rest) .kind) (r .kind)
 
 module _ (w named most : ℕ) (some' : 1 < most) where
   with-meets : (c : Piece) (p : Pair) → PieceMeets w named most c → goesOn most c p ≡ true → p .number < 256 ^ w
@@ -228,22 +254,6 @@ module _ (w named most : ℕ) (some' : 1 < most) where
       (λ e. rw e (chop-meets (pieceWith true c p) ps (with-meets c p m e n) r))
       (λ e. rw e (m, ending))
 
-  cut-meets : (ps : List Pair) → pairsMeet w named ps ≡ true → Every (PieceMeets w named most) (cut most ps)
-  unfolding cut
-  cut-meets [] h = tt
-  cut-meets (p ∷ []) h =
-      (record { few = omega arith; within = (pair-rules w named p [] .0 h .number, tt); kind = dab-named named; begun = λ b. omega arith }, tt)
-  cut-meets (p ∷ (q ∷ qs)) h =
-      let r : pairsMeet w named (q ∷ qs) ≡ true = pair-rules w named p (q ∷ qs) .0 h .rest in
-      chop-meets (record { more = false; qualifier = q .kind; numbers = p .number ∷ q .number ∷ [] }) qs
-      (record {
-        few = omega arith;
-        within = (pair-rules w named p (q ∷ qs) .0 h .number, (pair-rules w named q qs .0 r .number, tt));
-        kind = pair-rules w named q qs .0 r .kind;
-        begun = λ b. omega arith;
-      })
-      (pair-rules w named q qs .0 r .rest)
-
   dead-meets : (k : ℕ) (b : Bool) (ps : List Pair) → (b ≡ true → kindNamed named k ≡ true) → Every (PieceMeets w named most) (deadLink k b ps)
   unfolding deadLink
   dead-meets k b ps f =
@@ -253,16 +263,27 @@ module _ (w named most : ℕ) (some' : 1 < most) where
       (record { few = omega arith; within = tt; kind = f (and-left b (not (hasKind k ps)) e); begun = λ s. true-false refl s }, tt))
       (λ e. rw e tt)
 
+cut-meets : (k w named : ℕ) (ps : List Pair) → pairsMeet w named ps ≡ true → Every (PieceMeets w named (pieceMost (keyWidth k))) (cut k ps)
+unfolding cut
+cut-meets k w named [] h = tt
+cut-meets k w named (p ∷ ps) h =
+    let m : 5 < pieceMost (keyWidth k) = most-room (keyWidth k) in
+    let r = pair-rules w named p ps .0 h in
+    chop-meets w named (pieceMost (keyWidth k)) (omega arith) (record { more = false; qualifier = startQualifier k p ps; numbers = p .number ∷ [] }) ps
+    (record { few = omega arith; within = (r .number, tt); kind = start-named named k p ps w h; begun = λ b. omega arith }) (r .rest)
+
 -- every piece of a set is within the limits
-pub pieces-meet : (w most : ℕ) (l : IdSet) → 1 < most → pairsMeet w (l .named) (l .items) ≡ true → Every (PieceMeets w (l .named) most) (pieces most l)
+pub pieces-meet : (k w : ℕ) (l : IdSet) → pairsMeet w (l .named) (l .items) ≡ true → Every (PieceMeets w (l .named) (pieceMost (keyWidth k))) (pieces k l)
 unfolding pieces kindNamed
-pieces-meet w most l some' h =
+pieces-meet k w l h =
+    let most : ℕ = pieceMost (keyWidth k) in
+    let some' : 1 < most = omega (arith, most-room (keyWidth k)) in
     let P : Piece → Type 0 = PieceMeets w (l .named) most in
-    let a : List Piece = cut most (l .items) in
+    let a : List Piece = cut k (l .items) in
     let r : List Piece = deadLink rds (eqb (l .named % 2) 1) (l .items) in
     let d : List Piece = deadLink drm (eqb (l .named / 2) 1) (l .items) in
     every-append P (a ++ r) d
-    (every-append P a r (cut-meets w (l .named) most some' (l .items) h)
+    (every-append P a r (cut-meets k w (l .named) (l .items) h)
     (dead-meets w (l .named) most some' rds (eqb (l .named % 2) 1) (l .items) (λ e. rw e)))
     (dead-meets w (l .named) most some' drm (eqb (l .named / 2) 1) (l .items) (λ e. rw e))
 
@@ -276,13 +297,36 @@ chop-count most c (p ∷ ps) =
     let ending : length (chop most (pieceWith false c p) ps) ≤ suc (length ps) = chop-count most (pieceWith false c p) ps in
     cases-bool (goesOn most c p) (λ e. rw e (omega arith)) (λ e. rw e (omega arith))
 
--- the first two identifiers go into one piece
-cut-count : (most : ℕ) (ps : List Pair) → length (cut most ps) ≤ suc (length ps - 2)
+-- one that goes on takes the next in
+pub chop-on : (most : ℕ) (c : Piece) (p : Pair) (ps : List Pair) → p .kind ≡ c .qualifier → length (c .numbers) < most → chop most c (p ∷ ps) ≡ chop most (pieceWith true c p) ps
+unfolding chop completed
+chop-on most c p ps e h = rw (goes-on most c p e h)
+
+-- with OE 0 the first two identifiers go into one piece, if the first is one that may begin; with OE 1 they may need two
+pub start-next : (k : ℕ) (p q : Pair) (qs : List Pair) → oeOf k ≡ 0 → mayBegin k (p .kind) ≡ true → startQualifier k p (q ∷ qs) ≡ q .kind
+unfolding startQualifier firstOf firstKind
+start-next k p q qs z h = rw (z, begins-dab k (p .kind) z h)
+
+pair-count : (k : ℕ) (p q : Pair) (qs : List Pair) → startQualifier k p (q ∷ qs) ≡ q .kind → length (cut k (p ∷ (q ∷ qs))) ≤ suc (length qs)
 unfolding cut
-cut-count most [] = omega arith
-cut-count most (p ∷ []) = omega arith
-cut-count most (p ∷ (q ∷ qs)) =
-    omega (arith, chop-count most (record { more = false; qualifier = q .kind; numbers = p .number ∷ q .number ∷ [] }) qs)
+pair-count k p q qs e =
+    let most : ℕ = pieceMost (keyWidth k) in
+    let c : Piece = record { more = false; qualifier = startQualifier k p (q ∷ qs); numbers = p .number ∷ [] } in
+    rw (chop-on most c q qs (sym e) (omega (arith, most-room (keyWidth k)))) (chop-count most (pieceWith true c q) qs)
+
+cut-count : (k : ℕ) (ps : List Pair) → beginsRight k ps ≡ true → length (cut k ps) ≤ suc (length ps - 2) + oeOf k
+unfolding cut beginsRight
+cut-count k [] h = omega arith
+cut-count k (p ∷ []) h =
+    omega (arith, chop-count (pieceMost (keyWidth k)) (record { more = false; qualifier = startQualifier k p []; numbers = p .number ∷ [] }) [])
+cut-count k (p ∷ (q ∷ qs)) h =
+    cases-bool (eqb (oeOf k) 1)
+    (λ e.
+    omega
+    (arith, eqb-true (oeOf k) 1 e, chop-count (pieceMost (keyWidth k)) (record { more = false; qualifier = startQualifier k p (q ∷ qs); numbers = p .number ∷ [] }) (q ∷ qs)))
+    (λ e.
+    let z : oeOf k ≡ 0 = omega (arith, eqb-false (oeOf k) 1 e) in
+    omega (arith, pair-count k p q qs (start-next k p q qs z h)))
 
 dead-count : (k : ℕ) (b : Bool) (ps : List Pair) → length (deadLink k b ps) ≤ 1
 unfolding deadLink
@@ -309,43 +353,58 @@ rest-absent : (k : ℕ) (p : Pair) (ps : List Pair) → hasKind k (p ∷ ps) ≡
 unfolding hasKind
 rest-absent k p ps h = or-false-right (eqb (p .kind) k) (hasKind k ps) h
 
--- where all are DAB services, the first three go into one piece
-cut-dab : (w named most : ℕ) (ps : List Pair) → 2 < most → pairsMeet w named ps ≡ true → hasKind rds ps ≡ false → hasKind drm ps ≡ false
-    → length (cut most ps) ≤ suc (length ps - 3)
-unfolding cut chop completed
-cut-dab w named most [] m h r d = omega arith
-cut-dab w named most (p ∷ []) m h r d = omega arith
-cut-dab w named most (p ∷ (q ∷ [])) m h r d = omega arith
-cut-dab w named most (p ∷ (q ∷ (s ∷ ss))) m h r d =
-    let c : Piece = record { more = false; qualifier = q .kind; numbers = p .number ∷ q .number ∷ [] } in
-    let h1 : pairsMeet w named (q ∷ s ∷ ss) ≡ true = pair-rules w named p (q ∷ s ∷ ss) .0 h .rest in
-    let r1 : hasKind rds (q ∷ s ∷ ss) ≡ false = rest-absent rds p (q ∷ s ∷ ss) r in
-    let d1 : hasKind drm (q ∷ s ∷ ss) ≡ false = rest-absent drm p (q ∷ s ∷ ss) d in
-    let a : q .kind ≡ 0 = first-dab w named q (s ∷ ss) h1 r1 d1 in
-    let b : s .kind ≡ 0 =
-    first-dab w named s ss (pair-rules w named q (s ∷ ss) .0 h1 .rest) (rest-absent rds q (s ∷ ss) r1) (rest-absent drm q (s ∷ ss) d1) in
-    let e : goesOn most c s ≡ true = goes-on most c s (b ∙ sym a) m in
-    rw e (omega (arith, chop-count most (pieceWith true c s) ss))
+-- a start of two identifiers of one kind
+start-same : (k : ℕ) (p q : Pair) (qs : List Pair) → p .kind ≡ q .kind → startQualifier k p (q ∷ qs) ≡ q .kind
+unfolding startQualifier
+start-same k p q qs e = cond-both (λ (x : ℕ). x ≡ q .kind) (eqb (firstOf k (q .kind)) (p .kind)) (q .kind) (p .kind) refl e
 
--- a set of 128 identifiers at most needs 128 pieces at most: with two dead links all the others are DAB services
-pub pieces-count : (w most : ℕ) (l : IdSet) → 2 < most → length (l .items) ≤ mostIds → pairsMeet w (l .named) (l .items) ≡ true
-    → length (pieces most l) ≤ mostIds
+-- where all are DAB services, the first three go into one piece
+cut-dab : (k w named : ℕ) (ps : List Pair) → pairsMeet w named ps ≡ true → hasKind rds ps ≡ false → hasKind drm ps ≡ false
+    → length (cut k ps) ≤ suc (length ps - 3)
+unfolding cut pieceWith
+cut-dab k w named [] h r d = omega arith
+cut-dab k w named (p ∷ []) h r d =
+    omega (arith, chop-count (pieceMost (keyWidth k)) (record { more = false; qualifier = startQualifier k p []; numbers = p .number ∷ [] }) [])
+cut-dab k w named (p ∷ (q ∷ qs)) h r d =
+    let h1 : pairsMeet w named (q ∷ qs) ≡ true = pair-rules w named p (q ∷ qs) .0 h .rest in
+    let r1 : hasKind rds (q ∷ qs) ≡ false = rest-absent rds p (q ∷ qs) r in
+    let d1 : hasKind drm (q ∷ qs) ≡ false = rest-absent drm p (q ∷ qs) d in
+    let a : q .kind ≡ 0 = first-dab w named q qs h1 r1 d1 in
+    third qs h1 r1 d1 a (start-same k p q qs (first-dab w named p (q ∷ qs) h r d ∙ sym a))
+  where
+    most : ℕ
+    most = pieceMost (keyWidth k)
+
+    third : (rest : List Pair) → pairsMeet w named (q ∷ rest) ≡ true → hasKind rds (q ∷ rest) ≡ false → hasKind drm (q ∷ rest) ≡ false → q .kind ≡ 0
+        → startQualifier k p (q ∷ rest) ≡ q .kind → length (cut k (p ∷ (q ∷ rest))) ≤ suc (suc (suc (length rest)) - 3)
+    third [] h1 r1 d1 a e = omega (arith, pair-count k p q [] e)
+    third (s ∷ ss) h1 r1 d1 a e =
+        let b : s .kind ≡ 0 =
+        first-dab w named s ss (pair-rules w named q (s ∷ ss) .0 h1 .rest) (rest-absent rds q (s ∷ ss) r1) (rest-absent drm q (s ∷ ss) d1) in
+        let c : Piece = record { more = false; qualifier = startQualifier k p (q ∷ s ∷ ss); numbers = p .number ∷ [] } in
+        let m : 5 < most = most-room (keyWidth k) in
+        rw (chop-on most c q (s ∷ ss) (sym e) (omega arith), chop-on most (pieceWith true c q) s ss (b ∙ sym a ∙ sym e) (omega arith))
+        (omega (arith, chop-count most (pieceWith true (pieceWith true c q) s) ss))
+
+-- a set of 128 identifiers at most needs 128 pieces at most, and one more with OE 1: with two dead links all the others are DAB services
+pub pieces-count : (k w : ℕ) (l : IdSet) → length (l .items) ≤ mostIds → beginsRight k (l .items) ≡ true → pairsMeet w (l .named) (l .items) ≡ true
+    → length (pieces k l) ≤ mostIds + oeOf k
 unfolding pieces
-pieces-count w most l m n h =
+pieces-count k w l n f h =
     let ps : List Pair = l .items in
-    let a : List Piece = cut most ps in
+    let a : List Piece = cut k ps in
     let r : List Piece = deadLink rds (eqb (l .named % 2) 1) ps in
     let d : List Piece = deadLink drm (eqb (l .named / 2) 1) ps in
     let sum : length (a ++ r ++ d) ≡ length a + length r + length d = length-append (a ++ r) d ∙ ap (λ (x : ℕ). x + length d) (length-append a r) in
     let r1 : length r ≤ 1 = dead-count rds (eqb (l .named % 2) 1) ps in
     let d1 : length d ≤ 1 = dead-count drm (eqb (l .named / 2) 1) ps in
-    let c : length a ≤ suc (length ps - 2) = cut-count most ps in
+    let c : length a ≤ suc (length ps - 2) + oeOf k = cut-count k ps f in
     cases-bool (hasKind rds ps)
     (λ e. let z : length r ≡ 0 = dead-absent rds (eqb (l .named % 2) 1) ps e in omega arith)
     (λ e.
     cases-bool (hasKind drm ps)
     (λ g. let z : length d ≡ 0 = dead-absent drm (eqb (l .named / 2) 1) ps g in omega arith)
-    (λ g. let z : length a ≤ suc (length ps - 3) = cut-dab w (l .named) most ps m h e g in omega arith))
+    (λ g. let z : length a ≤ suc (length ps - 3) = cut-dab k w (l .named) ps h e g in omega arith))
 
 -- ---- the names
 
@@ -381,13 +440,26 @@ named-dab : (p : Pair) (ps : List Pair) → p .kind ≡ 0 → kindsNamed (p ∷ 
 unfolding kindsNamed namedBy
 named-dab p ps e = rw e (join-zero (kindsNamed ps))
 
-named-cut : (key most : ℕ) (ps : List Pair) → beginsRight key ps ≡ true → piecesNamed (cut most ps) ≡ kindsNamed ps
-unfolding cut beginsRight piecesNamed kindsNamed
-named-cut key most [] h = refl
-named-cut key most (p ∷ []) h = ap (λ (k : ℕ). joinNames (namedBy k) 0) (sym (begins-dab key (p .kind) h))
-named-cut key most (p ∷ (q ∷ qs)) h =
-    named-chop most (record { more = false; qualifier = q .kind; numbers = p .number ∷ q .number ∷ [] }) qs
-    ∙ sym (named-dab p (q ∷ qs) (begins-dab key (p .kind) h))
+-- a start names what its first two identifiers do: the first is of its kind or a DAB service
+start-names : (k : ℕ) (p q : Pair) (n : ℕ) → firstOf k (q .kind) ≡ p .kind
+    → joinNames (namedBy (q .kind)) (joinNames (namedBy (q .kind)) n) ≡ joinNames (namedBy (p .kind)) (joinNames (namedBy (q .kind)) n)
+unfolding firstOf firstKind namedBy
+start-names k p q n e =
+    cases-bool (eqb (oeOf k) 1)
+    (λ o. let s : q .kind ≡ p .kind = rw o at e in rw s)
+    (λ o. let s : dab ≡ p .kind = rw o at e in rw (sym s) (join-again (namedBy (q .kind)) n ∙ sym (join-zero (joinNames (namedBy (q .kind)) n))))
+
+named-cut : (k : ℕ) (ps : List Pair) → beginsRight k ps ≡ true → piecesNamed (cut k ps) ≡ kindsNamed ps
+unfolding cut beginsRight mayBegin startQualifier piecesNamed kindsNamed
+named-cut k [] h = refl
+named-cut k (p ∷ []) h =
+    named-chop (pieceMost (keyWidth k)) (record { more = false; qualifier = firstOf k (p .kind); numbers = p .number ∷ [] }) []
+    ∙ ap (λ (q : ℕ). joinNames (namedBy q) 0) (eqb-true (firstOf k (p .kind)) (p .kind) h)
+named-cut k (p ∷ (q ∷ qs)) h =
+    named-chop (pieceMost (keyWidth k)) (record { more = false; qualifier = startQualifier k p (q ∷ qs); numbers = p .number ∷ [] }) (q ∷ qs)
+    ∙ cases-bool (eqb (firstOf k (q .kind)) (p .kind))
+    (λ e. rw e (start-names k p q (kindsNamed qs) (eqb-true (firstOf k (q .kind)) (p .kind) e)))
+    (λ e. rw e)
 
 -- the two bits of a kind's name, of the pairs' names and of a dead link's
 named-rds : (k : ℕ) → namedBy k % 2 ≡ bit (eqb k rds)
@@ -459,12 +531,12 @@ bit-named true n h f = rw (f refl) (sym (eqb-true n 1 (f refl)))
 bit-named false n h f = cases-bool (eqb n 1) (λ e. rw e (sym (eqb-true n 1 e))) (λ e. rw e (omega (arith, eqb-false n 1 e)))
 
 -- the pieces of a set name together what it names
-pub pieces-named : (key w most : ℕ) (l : IdSet) → beginsRight key (l .items) ≡ true → pairsMeet w (l .named) (l .items) ≡ true → l .named < 4
-    → piecesNamed (pieces most l) ≡ l .named
+pub pieces-named : (k w : ℕ) (l : IdSet) → beginsRight k (l .items) ≡ true → pairsMeet w (l .named) (l .items) ≡ true → l .named < 4
+    → piecesNamed (pieces k l) ≡ l .named
 unfolding pieces namedBy
-pieces-named key w most l f h n =
+pieces-named k w l f h n =
     let ps : List Pair = l .items in
-    let a : List Piece = cut most ps in
+    let a : List Piece = cut k ps in
     let r : List Piece = deadLink rds (eqb (l .named % 2) 1) ps in
     let d : List Piece = deadLink drm (eqb (l .named / 2) 1) ps in
     let low : max (bit (hasKind rds ps)) (bit (eqb (l .named % 2) 1 && not (hasKind rds ps))) ≡ l .named % 2 =
@@ -474,7 +546,7 @@ pieces-named key w most l f h n =
     let y : bit (eqb (l .named % 2) 1 && not (hasKind rds ps)) ≤ 1 = bit-small (eqb (l .named % 2) 1 && not (hasKind rds ps)) in
     let z : bit (eqb (l .named / 2) 1 && not (hasKind drm ps)) ≤ 1 = bit-small (eqb (l .named / 2) 1 && not (hasKind drm ps)) in
     let e : piecesNamed (a ++ r ++ d) ≡ joinNames (joinNames (kindsNamed ps) (piecesNamed r)) (piecesNamed d) =
-    rw (named-append (a ++ r) d, named-append a r, named-cut key most ps f) in
+    rw (named-append (a ++ r) d, named-append a r, named-cut k ps f) in
     e
     ∙ names-eq (joinNames (joinNames (kindsNamed ps) (piecesNamed r)) (piecesNamed d)) (l .named)
     (simp (join-mod, kinds-rds ps, dead-named rds (eqb (l .named % 2) 1) ps, dead-named drm (eqb (l .named / 2) 1) ps) (omega arith))
@@ -482,18 +554,6 @@ pieces-named key w most l f h n =
 
 -- ---- a set that meets the table rules
 
--- a piece has room for 6 identifiers at least, and 12 at most
-pub most-room : (w : ℕ) → 5 < pieceMost w
-unfolding pieceMost
-most-room w = cases-bool (eqb w 4) (λ e. rw e (omega arith)) (λ e. rw e (cases-bool (eqb w 3) (λ f. rw f (omega arith)) (λ f. rw f (omega arith))))
-
-pub most-small : (w : ℕ) → pieceMost w ≤ 12
-unfolding pieceMost
-most-small w = cases-bool (eqb w 4) (λ e. rw e (omega arith)) (λ e. rw e (cases-bool (eqb w 3) (λ f. rw f (omega arith)) (λ f. rw f (omega arith))))
-
--- a set needs at most 128 pieces
-pub set-count : (k : ℕ) (l : IdSet) → setMeets k l ≡ true → length (pieces (pieceMost (keyWidth k)) l) ≤ mostIds
-set-count k l h =
-    let s = set-rules k l .0 h in
-    let m : 5 < pieceMost (keyWidth k) = most-room (keyWidth k) in
-    pieces-count (keyWidth k) (pieceMost (keyWidth k)) l (omega arith) (s .short) (s .pairs)
+-- a set needs at most 128 pieces, and one more with OE 1
+pub set-count : (k : ℕ) (l : IdSet) → setMeets k l ≡ true → length (pieces k l) ≤ mostIds + oeOf k
+set-count k l h = let s = set-rules k l .0 h in pieces-count k (keyWidth k) l (s .short) (s .first) (s .pairs)

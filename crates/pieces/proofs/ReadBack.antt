@@ -12,26 +12,26 @@ use lib.Seq.{take-at, drop-at, drop-append-add}
 use lib.Dec.{ltb, eqb}
 use borrow.Author.Tests.{ltb-true, lt-ltb}
 use Rattle.rules.specs.Block.{bit}
-use Rattle.rules.specs.Field.{Field, keyOf, firstKind, pairsOf, namedBy, hasList, isContinuation}
+use Rattle.rules.specs.Field.{Field, keyOf, pairsOf, namedBy, hasList, isContinuation}
 use Rattle.rules.specs.Family.{start, continuation, Said, step, steps}
-use Rattle.rules.specs.Collecting.{linkage, joinNames, IdSet, Held, Entries, Content, nothing, justSets, brings, actOf, said, keyWidth, setMeets, ifThere, entryMeets, ascends, entriesMeet, meets, Shown, showing, shownSets, mostKeys}
+use Rattle.rules.specs.Collecting.{linkage, joinNames, IdSet, Held, Entries, Content, nothing, justSets, brings, actOf, said, keyWidth, oeOf, firstOf, setMeets, ifThere, entryMeets, ascends, entriesMeet, meets, Shown, showing, shownSets, mostKeys}
 use Rattle.rules.specs.Outcomes.{verdict, taken, answerTo, readBlock, readBlocks, readRecording, leftOver}
 use Rattle.pieces.specs.Air.{Piece, pieceMost, pieces, figBytes, blockOf, blocksOf, setBlocks, allBlocks, air}
 use Rattle.rules.proofs.Basics.{cases-bool, cases-option, and-left, and-right, Every, every-append, every-imp}
 use Rattle.rules.proofs.TableRules.{kind-small, names-small, names-none, lawful, all-differ, SetRules, set-rules, entry-rules, key-meets, table-rules, shown-few, join-assoc, join-to-zero}
 use Rattle.rules.proofs.Sent.{KeysBefore, withPiece, withPieces, Continue, Sends, sent-new, sent-again}
-use Rattle.pieces.proofs.Cutting.{Below, piecePairs, flat, flat-pieces, IsMore, Shape, pieces-shape, PieceMeets, pieces-meet, most-room, set-count, piecesNamed, pieces-named}
+use Rattle.pieces.proofs.Cutting.{Below, piecePairs, flat, flat-pieces, IsMore, Shape, pieces-shape, PieceMeets, pieces-meet, set-count, piecesNamed, pieces-named}
 use Rattle.pieces.proofs.BlockBack.{fieldOf, block-length, verdict-back, piece-bytes}
 
 -- ---- what a piece's field says
 
--- what a piece brings
-unfoldable pub bringsOf : Piece → IdSet
-bringsOf c = record { items = piecePairs c; named = namedBy (c .qualifier) }
+-- what a piece of a key's set brings
+unfoldable pub bringsOf : ℕ → Piece → IdSet
+bringsOf k c = record { items = piecePairs k c; named = namedBy (c .qualifier) }
 
 -- a piece of a set with this key and state, as a field
 unfoldable pub saidOf : ℕ → Bool → Piece → Said linkage
-saidOf k on c = record { key = k; state = on; act = cond (c .more) (continuation (bringsOf c)) (start (bringsOf c)); stamp = tt }
+saidOf k on c = record { key = k; state = on; act = cond (c .more) (continuation (bringsOf k c)) (start (bringsOf k c)); stamp = tt }
 
 -- a number and its half
 halves : (k : ℕ) → (k / 16384 ≡ 2 * (k / 32768) + k / 16384 % 2) × (k / 8192 ≡ 2 * (k / 16384) + k / 8192 % 2) × (k / 4096 ≡ 2 * (k / 8192) + k / 4096 % 2)
@@ -58,7 +58,7 @@ state-back true = refl
 state-back false = refl
 
 act-back : (k : ℕ) (on : Bool) (c : Piece) → actOf (fieldOf k on c) ≡ saidOf k on c .act
-unfolding actOf fieldOf saidOf hasList isContinuation brings bringsOf pairsOf piecePairs firstKind bit
+unfolding actOf fieldOf saidOf hasList isContinuation brings bringsOf pairsOf piecePairs firstOf bit
 act-back k on c = cases-bool (c .more) (λ e. rw e) (λ e. rw e)
 
 pub said-back : (k : ℕ) (on : Bool) (c : Piece) → k < 65536 → said (fieldOf k on c) ≡ saidOf k on c
@@ -79,81 +79,76 @@ keys-before : (k : ℕ) (t : Entries) → KeysBelow k t → KeysBefore linkage k
 keys-before k t h = every-imp (λ (e : Held). e .key < k) (λ (e : Held). ltb (e .key) k ≡ true) (λ e l. lt-ltb (e .key) k l) t h
 
 -- the list that the pieces after the first make of it
-unfoldable pub collected : IdSet → List Piece → IdSet
-collected d cs = record { items = d .items ++ flat cs; named = joinNames (d .named) (piecesNamed cs) }
+unfoldable pub collected : ℕ → IdSet → List Piece → IdSet
+collected k d cs = record { items = d .items ++ flat k cs; named = joinNames (d .named) (piecesNamed cs) }
 
-collected-is : (d : IdSet) (cs : List Piece) → withPieces linkage d (map bringsOf cs) ≡ collected d cs
+collected-is : (k : ℕ) (d : IdSet) (cs : List Piece) → withPieces linkage d (map (bringsOf k) cs) ≡ collected k d cs
 unfolding withPieces collected flat piecesNamed
-collected-is d [] = λ i. record { items = sym (append-nil (d .items)) i; named = sym (join-to-zero (d .named)) i }
-collected-is d (c ∷ cs) =
-    collected-is (withPiece linkage d (bringsOf c)) cs
+collected-is k d [] = λ i. record { items = sym (append-nil (d .items)) i; named = sym (join-to-zero (d .named)) i }
+collected-is k d (c ∷ cs) =
+    collected-is k (withPiece linkage d (bringsOf k c)) cs
     ∙ unfold withPiece bringsOf in
     λ i.
     record {
-      items = append-assoc (d .items) (piecePairs c) (flat cs) i;
+      items = append-assoc (d .items) (piecePairs k c) (flat k cs) i;
       named = join-assoc (d .named) (namedBy (c .qualifier)) (piecesNamed cs) i;
     }
 
 -- pieces that are continuations, as fields that continue
-goes-on : (k : ℕ) (on : Bool) (cs : List Piece) → Every IsMore cs → Continue linkage k on (map bringsOf cs) (map (saidOf k on) cs)
+goes-on : (k : ℕ) (on : Bool) (cs : List Piece) → Every IsMore cs → Continue linkage k on (map (bringsOf k) cs) (map (saidOf k on) cs)
 unfolding saidOf
 goes-on k on [] m = tt
 goes-on k on (c ∷ cs) m = ((refl, refl, rw (m .0)), goes-on k on cs (m .1))
 
--- the pieces of a set, for its key
-unfoldable pub piecesFor : ℕ → IdSet → List Piece
-piecesFor k l = pieces (pieceMost (keyWidth k)) l
-
 module _ (k : ℕ) (l : IdSet) (parts : SetRules k l) where
-  shape-of : Shape false (piecesFor k l)
-  unfolding piecesFor
-  shape-of = pieces-shape (pieceMost (keyWidth k)) l (parts .some)
+  shape-of : Shape false (pieces k l)
+  shape-of = pieces-shape k l (parts .some)
 
-  items-back : piecePairs (shape-of .first) ++ flat (shape-of .others) ≡ l .items
-  unfolding piecesFor flat
-  items-back = ap flat (sym (shape-of .made)) ∙ flat-pieces k (pieceMost (keyWidth k)) l (parts .first)
+  items-back : piecePairs k (shape-of .first) ++ flat k (shape-of .others) ≡ l .items
+  unfolding flat
+  items-back = ap (flat k) (sym (shape-of .made)) ∙ flat-pieces k l (parts .first)
 
   names-back : joinNames (namedBy (shape-of .first .qualifier)) (piecesNamed (shape-of .others)) ≡ l .named
-  unfolding piecesFor piecesNamed
-  names-back = ap piecesNamed (sym (shape-of .made)) ∙ pieces-named k (keyWidth k) (pieceMost (keyWidth k)) l (parts .first) (parts .pairs) (names-small k (l .named) (parts .names))
+  unfolding piecesNamed
+  names-back = ap piecesNamed (sym (shape-of .made)) ∙ pieces-named k (keyWidth k) l (parts .first) (parts .pairs) (names-small k (l .named) (parts .names))
 
   -- a start's list and the continuations make the set
-  whole-back : collected (bringsOf (shape-of .first)) (shape-of .others) ≡ l
+  whole-back : collected k (bringsOf k (shape-of .first)) (shape-of .others) ≡ l
   unfolding collected bringsOf
   whole-back = λ i. record { items = items-back i; named = names-back i }
 
   module _ (on : Bool) where
     -- its fields send it
-    sends : Sends linkage k on l (map (saidOf k on) (piecesFor k l))
+    sends : Sends linkage k on l (map (saidOf k on) (pieces k l))
     unfolding saidOf
     sends =
         record {
           first = saidOf k on (shape-of .first);
           others = map (saidOf k on) (shape-of .others);
           made = ap (map (saidOf k on)) (shape-of .made);
-          piece = bringsOf (shape-of .first);
-          pieces = map bringsOf (shape-of .others);
+          piece = bringsOf k (shape-of .first);
+          pieces = map (bringsOf k) (shape-of .others);
           key = refl;
           state = refl;
           act = rw (shape-of .begins);
           goes = goes-on k on (shape-of .others) (shape-of .goes);
-          whole = collected-is (bringsOf (shape-of .first)) (shape-of .others) ∙ whole-back;
+          whole = collected-is k (bringsOf k (shape-of .first)) (shape-of .others) ∙ whole-back;
         }
 
     module _ (pre : Entries) (low : KeysBelow k pre) where
       -- a set of a new key: it is the open list, and nothing is shown
-      steps-new : length pre < mostKeys → steps linkage pre (map (saidOf k on) (piecesFor k l)) .0 ≡ pre ++ entry k on none (some l) ∷ []
+      steps-new : length pre < mostKeys → steps linkage pre (map (saidOf k on) (pieces k l)) .0 ≡ pre ++ entry k on none (some l) ∷ []
       unfolding entry
       steps-new r =
-          sent-new linkage lawful k on pre (keys-before k pre low) l (parts .short) (all-differ (l .items) .0 (parts .differ)) (map (saidOf k on) (piecesFor k l))
+          sent-new linkage lawful k on pre (keys-before k pre low) l (parts .short) (all-differ (l .items) .0 (parts .differ)) (map (saidOf k on) (pieces k l))
           sends r
 
       -- a set of a key with an open list: that list is shown, and the set is the open list
       steps-again : (post : Entries) (b : Bool) (sh : Option IdSet) (d : IdSet)
-          → steps linkage (pre ++ entry k b sh (some d) ∷ post) (map (saidOf k on) (piecesFor k l)) .0 ≡ pre ++ entry k on (some d) (some l) ∷ post
+          → steps linkage (pre ++ entry k b sh (some d) ∷ post) (map (saidOf k on) (pieces k l)) .0 ≡ pre ++ entry k on (some d) (some l) ∷ post
       unfolding entry
       steps-again post b sh d =
-          sent-again linkage lawful k on pre (keys-before k pre low) l (parts .short) (all-differ (l .items) .0 (parts .differ)) (map (saidOf k on) (piecesFor k l))
+          sent-again linkage lawful k on pre (keys-before k pre low) l (parts .short) (all-differ (l .items) .0 (parts .differ)) (map (saidOf k on) (pieces k l))
           sends post b sh d tt
 
 -- ---- a set's blocks
@@ -234,37 +229,32 @@ blocks-bytes k named on (c ∷ cs) m =
     (piece-bytes k on c (kind-small named (c .qualifier) (m .0 .kind)) (m .0 .few)) (blocks-bytes k named on cs (m .1))
 
 pieces-sent : (s : Shown) → Sendable s
-    → Every (PieceMeets (keyWidth (s .key)) (s .set .named) (pieceMost (keyWidth (s .key)))) (piecesFor (s .key) (s .set))
-unfolding piecesFor
-pieces-sent s h =
-    pieces-meet (keyWidth (s .key)) (pieceMost (keyWidth (s .key))) (s .set) (omega (arith, most-room (keyWidth (s .key))))
-    (set-rules (s .key) (s .set) .0 (h .right) .pairs)
+    → Every (PieceMeets (keyWidth (s .key)) (s .set .named) (pieceMost (keyWidth (s .key)))) (pieces (s .key) (s .set))
+pieces-sent s h = pieces-meet (s .key) (keyWidth (s .key)) (s .set) (set-rules (s .key) (s .set) .0 (h .right) .pairs)
 
 -- a set's blocks are made of bytes
 set-bytes : (s : Shown) → Sendable s → Below 256 (setBlocks s)
-unfolding setBlocks piecesFor
-set-bytes s h = blocks-bytes (s .key) (s .set .named) (s .on) (piecesFor (s .key) (s .set)) (pieces-sent s h)
+unfolding setBlocks
+set-bytes s h = blocks-bytes (s .key) (s .set .named) (s .on) (pieces (s .key) (s .set)) (pieces-sent s h)
 
 -- a set's blocks, as its pieces' fields
 read-set : (s : Shown) (t : Entries) (rest : List ℕ) → Sendable s
-    → readInto t (setBlocks s ++ rest) ≡ readInto (steps linkage t (map (saidOf (s .key) (s .on)) (piecesFor (s .key) (s .set))) .0) rest
-unfolding setBlocks piecesFor
+    → readInto t (setBlocks s ++ rest) ≡ readInto (steps linkage t (map (saidOf (s .key) (s .on)) (pieces (s .key) (s .set))) .0) rest
+unfolding setBlocks
 read-set s t rest h =
     read-pieces (s .key) (s .set .named) (s .on) (h .small) (h .lsn) (names-none (s .key) (s .set .named) (set-rules (s .key) (s .set) .0 (h .right) .names)) t
-    (piecesFor (s .key) (s .set)) rest (pieces-sent s h)
+    (pieces (s .key) (s .set)) rest (pieces-sent s h)
 
 taken-set : (s : Shown) (rest : List ℕ) → Sendable s → EachTaken rest → EachTaken (setBlocks s ++ rest)
-unfolding setBlocks piecesFor
+unfolding setBlocks
 taken-set s rest h g =
     taken-pieces (s .key) (s .set .named) (s .on) (h .small) (h .lsn) (names-none (s .key) (s .set .named) (set-rules (s .key) (s .set) .0 (h .right) .names))
-    (piecesFor (s .key) (s .set)) rest (pieces-sent s h) g
+    (pieces (s .key) (s .set)) rest (pieces-sent s h) g
 
--- a set's blocks take 4,096 bytes at most
-pub set-length : (s : Shown) → Sendable s → length (setBlocks s) ≤ 4096
+-- a set's blocks take 4,096 bytes at most, and 32 more with OE 1
+pub set-length : (s : Shown) → Sendable s → length (setBlocks s) ≤ 4096 + 32 * oeOf (s .key)
 unfolding setBlocks
-set-length s h =
-    let cs : List Piece = pieces (pieceMost (keyWidth (s .key))) (s .set) in
-    omega (arith, blocks-length (s .key) (s .on) cs, set-count (s .key) (s .set) (h .right))
+set-length s h = omega (arith, blocks-length (s .key) (s .on) (pieces (s .key) (s .set)), set-count (s .key) (s .set) (h .right))
 
 -- ---- the whole output
 
@@ -326,7 +316,7 @@ unfolding allBlocks
 taken-all last [] o = λ i h. absurd (omega arith)
 taken-all last (s ∷ ss) o = taken-set s (allBlocks ss) (o .1) (taken-all (s .key) ss (o .2))
 
-all-blocks-length : (last : ℕ) (ss : List Shown) → InOrder last ss → length (allBlocks ss) ≤ 4096 * length ss
+all-blocks-length : (last : ℕ) (ss : List Shown) → InOrder last ss → length (allBlocks ss) ≤ 4128 * length ss
 unfolding allBlocks
 all-blocks-length last [] o = omega arith
 all-blocks-length last (s ∷ ss) o =
@@ -338,7 +328,7 @@ unfolding allBlocks setBlocks
 all-blocks-whole [] = refl
 all-blocks-whole (s ∷ ss) =
     omega
-    (arith, length-append (setBlocks s) (allBlocks ss), blocks-length (s .key) (s .on) (pieces (pieceMost (keyWidth (s .key))) (s .set)), all-blocks-whole ss)
+    (arith, length-append (setBlocks s) (allBlocks ss), blocks-length (s .key) (s .on) (pieces (s .key) (s .set)), all-blocks-whole ss)
 
 all-blocks-bytes : (last : ℕ) (ss : List Shown) → InOrder last ss → Below 256 (allBlocks ss)
 unfolding allBlocks
@@ -379,7 +369,7 @@ content-order last (e ∷ es) a m =
     (λ l g. rw g (up, sendable e l (and-left (entryMeets e) (entriesMeet es) m) g, rest))
 
 -- what the table rules say of a content's shown sets
-shown-order : (t : Content) → meets t ≡ true → InOrder 0 (shownSets (t .sets))
+pub shown-order : (t : Content) → meets t ≡ true → InOrder 0 (shownSets (t .sets))
 shown-order t h = let r = table-rules (t .sets) .0 h in content-order 0 (t .sets) (r .ascend) (r .entries)
 
 shown-most : (t : Content) → meets t ≡ true → length (shownSets (t .sets)) ≤ mostKeys
@@ -429,12 +419,12 @@ pub air-taken : (t : Content) → meets t ≡ true → EachTaken (air t)
 unfolding air
 air-taken t h = taken-all 0 (shownSets (t .sets)) (shown-order t h)
 
--- it is whole blocks, and at most 131,072 bytes
+-- it is whole blocks, and at most 132,096 bytes
 pub air-whole : (t : Content) → leftOver (air t) ≡ 0
 unfolding air leftOver
 air-whole t = all-blocks-whole (shownSets (t .sets))
 
-pub air-length : (t : Content) → meets t ≡ true → length (air t) ≤ 131072
+pub air-length : (t : Content) → meets t ≡ true → length (air t) ≤ 132096
 unfolding air
 air-length t h = omega (arith, all-blocks-length 0 (shownSets (t .sets)) (shown-order t h), shown-most t h)
 

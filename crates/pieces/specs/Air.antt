@@ -6,7 +6,7 @@ use lib.ListN.{length, take, replicate}
 use lib.Dec.{ltb, eqb}
 use Rattle.rules.specs.Block.{checkOf, bit}
 use Rattle.rules.specs.Field.{Pair, rds, drm}
-use Rattle.rules.specs.Collecting.{Content, IdSet, Shown, shownSets, keyWidth}
+use Rattle.rules.specs.Collecting.{Content, IdSet, Shown, shownSets, keyWidth, firstOf}
 use Rattle.lists.specs.Kinds.{isDead}
 
 -- ---- cutting a set
@@ -40,20 +40,26 @@ unfoldable pub chop : ℕ → Piece → List Pair → List Piece
 chop most c [] = c ∷ []
 chop most c (p ∷ ps) = completed (goesOn most c p) c (chop most (pieceWith (goesOn most c p) c p) ps)
 
--- the start takes the first identifier and the run of one kind that follows; that kind is its qualifier, or 0 if there is
--- one identifier
+-- the qualifier of a start, by its first identifier and those behind it: the kind of the next, where a start of that kind begins with the
+-- first; else the first's own. So with OE 0 a start takes the first identifier and the run of one kind that follows, and its qualifier is
+-- that kind, or 0 if there is one identifier; with OE 1 it takes the first run of one kind, and its qualifier is that (document 02, R-3)
+unfoldable pub startQualifier : ℕ → Pair → List Pair → ℕ
+startQualifier k p [] = firstOf k (p .kind)
+startQualifier k p (q ∷ qs) = cond (eqb (firstOf k (q .kind)) (p .kind)) (q .kind) (p .kind)
+
+-- the pieces of a key's identifiers
 unfoldable pub cut : ℕ → List Pair → List Piece
-cut most [] = []
-cut most (p ∷ []) = record { more = false; qualifier = 0; numbers = p .number ∷ [] } ∷ []
-cut most (p ∷ (q ∷ qs)) = chop most (record { more = false; qualifier = q .kind; numbers = p .number ∷ q .number ∷ [] }) qs
+cut k [] = []
+cut k (p ∷ ps) = chop (pieceMost (keyWidth k)) (record { more = false; qualifier = startQualifier k p ps; numbers = p .number ∷ [] }) ps
 
 -- a continuation with count 0 for a named kind that has no identifier
 unfoldable pub deadLink : ℕ → Bool → List Pair → List Piece
 deadLink k named ps = cond (isDead k named ps) (record { more = true; qualifier = k; numbers = [] } ∷ []) []
 
+-- the pieces of a key's set
 unfoldable pub pieces : ℕ → IdSet → List Piece
-pieces most l =
-    cut most (l .items) ++ deadLink rds (eqb (l .named % 2) 1) (l .items) ++ deadLink drm (eqb (l .named / 2) 1) (l .items)
+pieces k l =
+    cut k (l .items) ++ deadLink rds (eqb (l .named % 2) 1) (l .items) ++ deadLink drm (eqb (l .named / 2) 1) (l .items)
 
 -- ---- a piece as a block
 
@@ -90,7 +96,7 @@ blocksOf k on [] = []
 blocksOf k on (c ∷ cs) = blockOf (figBytes k on c) ++ blocksOf k on cs
 
 unfoldable pub setBlocks : Shown → List ℕ
-setBlocks s = blocksOf (s .key) (s .on) (pieces (pieceMost (keyWidth (s .key))) (s .set))
+setBlocks s = blocksOf (s .key) (s .on) (pieces (s .key) (s .set))
 
 unfoldable pub allBlocks : List Shown → List ℕ
 allBlocks [] = []

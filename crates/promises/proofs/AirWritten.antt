@@ -1,5 +1,5 @@
 -- What the answers of write_air promise besides (document 01, Writing for air; demand 2). In order: whole blocks and at most
--- 131,072 bytes are written; as many are always enough; what is written, read twice into an empty table, shows the same sets, also
+-- 132,096 bytes are written; as many are always enough; what is written, read twice into an empty table, shows the same sets, also
 -- where read_recording reads it.
 use Prim.Native.Nat.{ℕ, _%_, _≤_, _<_}
 use native.Mathlib.Omega.{arith}
@@ -33,11 +33,11 @@ module _ (t : Table) (old : List ℕ) (r : Written) (new : List ℕ) where
   whole (tooShort c m e h o s b) = rw s
   whole (noTable n o s b) = rw s
 
-  pub write-air-size : WritesAir t old r new → (r .size ≤ 131072) × (r .size % 32 ≡ 0)
-  write-air-size w = let a = write-air-answers t old r new w in (write-most air t old r new 131072 air-length a, whole a)
+  pub write-air-size : WritesAir t old r new → (r .size ≤ 132096) × (r .size % 32 ≡ 0)
+  write-air-size w = let a = write-air-answers t old r new w in (write-most air t old r new 132096 air-length a, whole a)
 
-  pub write-air-enough : WritesAir t old r new → Stored t → 131072 ≤ length old → numberOf (r .outcome) ≡ 0
-  write-air-enough w = write-enough air t old r new 131072 air-length (write-air-answers t old r new w)
+  pub write-air-enough : WritesAir t old r new → Stored t → 132096 ≤ length old → numberOf (r .outcome) ≡ 0
+  write-air-enough w = write-enough air t old r new 132096 air-length (write-air-answers t old r new w)
 
   module _ (w : WritesAir t old r new) (done : numberOf (r .outcome) ≡ 0) (c : Content) (m : meets c ≡ true) (e : t ≡ storeTable c) where
     bytes : take (r .size) new ≡ air c

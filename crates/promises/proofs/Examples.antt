@@ -1,15 +1,17 @@
--- Examples 15 and 16 of document 01: the sheet and the listing of the table that example 2 leaves. The others are in crate rules.
+-- Examples 15 and 16 of document 01: the sheet and the listing of the table that example 2 leaves. And of the table that an RDS list
+-- with OE 1 leaves (document 02, R-3): its sheet, its listing, and for air the block that it was read from. The others are in crate rules.
 use mathlib.Core.Path.{_≡_, refl}
 use mathlib.Core.Bool.{true}
 use mathlib.Core.List.{[], _∷_}
 use mathlib.Core.Option.{some}
-use Rattle.rules.specs.Block.{bit}
-use Rattle.rules.specs.Field.{width, pair}
-use Rattle.rules.specs.Collecting.{keyWidth, showing, shownSets}
-use Rattle.rules.proofs.Examples.{E, two}
+use Rattle.rules.specs.Block.{bits, bit, number, generator, shift, shifts, register, checkOf}
+use Rattle.rules.specs.Field.{width, firstKind, pair}
+use Rattle.rules.specs.Collecting.{keyWidth, firstOf, showing, shownSets}
+use Rattle.rules.proofs.Examples.{E, two, other, codes, O}
 use Rattle.lists.specs.Kinds.{hasKind}
 use Rattle.out.specs.Text.{hexDigit, hexText, decimalTo, decimal}
 use Rattle.layout.specs.Sheet.{groups, sheetNumber, sheetPairs, sheetSet, sheetSets, sheet}
+use Rattle.pieces.specs.Air.{pieceMost, goesOn, pieceWith, completed, chop, startQualifier, cut, deadLink, pieces, bigBytes, allBytes, fieldBytes, figBytes, blockOf, blocksOf, setBlocks, allBlocks, air}
 use Rattle.text.specs.Listing.{kindLetter, pairText, pairsText, deadText, stateText, idsText, lineOf, linesOf, tailText, listing}
 
 pub sheet-holds : sheet (E true (some two) (some two)) ≡ 0x01 ∷ 0x84 ∷ 0x40 ∷ 0x01 ∷ 0x01 ∷ 0x02 ∷ 0x00 ∷ 0xB1 ∷ 0x89 ∷ 0x01 ∷ 0x01 ∷ 0xB1 ∷ 0x89 ∷ 0x01 ∷ []
@@ -20,3 +22,16 @@ sheet-holds = refl
 pub listing-holds : listing (E true (some two) (some two)) 0 ≡ 115 ∷ 101 ∷ 116 ∷ 115 ∷ 32 ∷ 49 ∷ 10 ∷ 50 ∷ 48 ∷ 48 ∷ 52 ∷ 32 ∷ 111 ∷ 110 ∷ 32 ∷ 105 ∷ 100 ∷ 115 ∷ 32 ∷ 50 ∷ 32 ∷ 68 ∷ 52 ∷ 52 ∷ 66 ∷ 49 ∷ 32 ∷ 82 ∷ 52 ∷ 52 ∷ 66 ∷ 49 ∷ 10 ∷ []
 unfolding listing linesOf lineOf pairsText pairText deadText stateText idsText tailText kindLetter hexText hexDigit decimal decimalTo hasKind keyWidth width shownSets showing pair
 listing-holds = refl
+
+pub other-sheet-holds : sheet (O (some codes) (some codes)) ≡ 0x01 ∷ 0x84 ∷ 0xC0 ∷ 0x02 ∷ 0x01 ∷ 0x01 ∷ 0x02 ∷ 0x01 ∷ 0xB1 ∷ 0x89 ∷ 0x01 ∷ 0x01 ∷ 0xB1 ∷ 0x87 ∷ 0x01 ∷ []
+unfolding sheet sheetSets sheetSet sheetPairs sheetNumber groups bit shownSets showing pair
+other-sheet-holds = refl
+
+-- `sets 1` and `A004 on ids 2 R44B1 R43B1`
+pub other-listing-holds : listing (O (some codes) (some codes)) 0 ≡ 115 ∷ 101 ∷ 116 ∷ 115 ∷ 32 ∷ 49 ∷ 10 ∷ 65 ∷ 48 ∷ 48 ∷ 52 ∷ 32 ∷ 111 ∷ 110 ∷ 32 ∷ 105 ∷ 100 ∷ 115 ∷ 32 ∷ 50 ∷ 32 ∷ 82 ∷ 52 ∷ 52 ∷ 66 ∷ 49 ∷ 32 ∷ 82 ∷ 52 ∷ 51 ∷ 66 ∷ 49 ∷ 10 ∷ []
+unfolding listing linesOf lineOf pairsText pairText deadText stateText idsText tailText kindLetter hexText hexDigit decimal decimalTo hasKind keyWidth width shownSets showing pair
+other-listing-holds = refl
+
+pub other-air-holds : air (O (some codes) (some codes)) ≡ other
+unfolding air allBlocks setBlocks blocksOf blockOf figBytes fieldBytes allBytes bigBytes pieces cut startQualifier chop completed goesOn pieceWith deadLink pieceMost hasKind firstOf firstKind keyWidth width shownSets showing pair bits bit number generator shift shifts register checkOf mathlib.Core.Bool.xor mathlib.Core.List.zipWith
+other-air-holds = refl

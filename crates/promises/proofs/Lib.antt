@@ -1,7 +1,8 @@
 -- What the contracts of the public functions promise. The front page is Demand1.antt, Demand2.antt and Demand3.antt; the others are in order:
 -- the contracts, each with a name, and that the functions are proved to meet them; that a contract admits one answer; which outcomes there are
 -- and what each refusal leaves; that the table rules are kept; the same of what is written, and what follows of the buffer; what is special to the
--- blocks for air and to the sheet; better reception, and why it needs its premises; two examples; runs of calls, and their laws.
+-- blocks for air and to the sheet; the first number from another ensemble (document 02, R-3); better reception, and why it needs its premises;
+-- examples; runs of calls, and their laws.
 pub mod Contracts
 pub mod Proved
 pub mod Single
@@ -11,6 +12,7 @@ pub mod Writing
 pub mod Buffers
 pub mod AirWritten
 pub mod SheetWritten
+pub mod FirstNumber
 pub mod Better
 pub mod Needed
 pub mod Examples

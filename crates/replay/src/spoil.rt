@@ -108,6 +108,8 @@ fn is_needed(way: usize, key: u32, list: IdList) -> bool {
         len < 128
     } else if way == 9 || way == 16 {
         2 <= len
+    } else if way == 10 {
+        key / 32768 % 2 == 0
     } else if way == 11 {
         key / 16384 % 2 == 0
     } else if way == 13 {

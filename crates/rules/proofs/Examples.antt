@@ -1,5 +1,6 @@
--- The starred examples 1 to 12 of document 01, both halves of 10, as one table: blocks with their check bytes, as the second
--- program under tests/ makes them, and what reading them into the empty table answers and leaves. One statement, computed.
+-- The starred examples 1 to 12 of document 01, both halves of 10, and one with OE 1 (document 02, R-3), once and again, as one table: blocks
+-- with their check bytes, as the second program under tests/ makes them, and what reading them into the empty table answers and leaves.
+-- One statement, computed.
 use Prim.Native.Nat.{ℕ}
 use mathlib.Core.Path.{_≡_, refl}
 use mathlib.Core.Bool.{Bool, true, false}
@@ -57,6 +58,16 @@ two = record { items = pair 0 0x44B1 ∷ pair 1 0x44B1 ∷ []; named = 1 }
 abbrev pub E : Bool → Option IdSet → Option IdSet → Content
 E on shown draft = justSets (record { key = 0x2004; state = on; shown = shown; draft = draft; stamp = tt } ∷ [])
 
+-- example 1's list with OE 1 and another second number: key A004 of another ensemble, RDS 44B1 and RDS 43B1
+abbrev pub other : List ℕ
+other = 8 ∷ 70 ∷ 224 ∷ 4 ∷ 34 ∷ 68 ∷ 177 ∷ 67 ∷ 177 ∷ 255 ∷ 0 ∷ 0 ∷ 0 ∷ 0 ∷ 0 ∷ 0 ∷ 0 ∷ 0 ∷ 0 ∷ 0 ∷ 0 ∷ 0 ∷ 0 ∷ 0 ∷ 0 ∷ 0 ∷ 0 ∷ 0 ∷ 0 ∷ 0 ∷ 38 ∷ 46 ∷ []
+
+abbrev pub codes : IdSet
+codes = record { items = pair 1 0x44B1 ∷ pair 1 0x43B1 ∷ []; named = 1 }
+
+abbrev pub O : Option IdSet → Option IdSet → Content
+O shown draft = justSets (record { key = 0xA004; state = true; shown = shown; draft = draft; stamp = tt } ∷ [])
+
 -- the blocks and what they should give
 unfoldable pub examples : List Example
 unfolding pair
@@ -87,6 +98,10 @@ examples =
     record { blocks = linked ∷ (8 ∷ 6 ∷ 224 ∷ 4 ∷ 34 ∷ 68 ∷ 177 ∷ 68 ∷ 177 ∷ 255 ∷ 0 ∷ 0 ∷ 0 ∷ 0 ∷ 0 ∷ 0 ∷ 0 ∷ 0 ∷ 0 ∷ 0 ∷ 0 ∷ 0 ∷ 0 ∷ 0 ∷ 0 ∷ 0 ∷ 0 ∷ 0 ∷ 0 ∷ 0 ∷ 195 ∷ []) ∷ []; outcome = 1; place = 0; notes = []; left = E true none (some two) } ∷
     -- 12: a FIG that fills the block, of another extension: done, no notes
     record { blocks = (29 ∷ 1 ∷ 0 ∷ 0 ∷ 0 ∷ 0 ∷ 0 ∷ 0 ∷ 0 ∷ 0 ∷ 0 ∷ 0 ∷ 0 ∷ 0 ∷ 0 ∷ 0 ∷ 0 ∷ 0 ∷ 0 ∷ 0 ∷ 0 ∷ 0 ∷ 0 ∷ 0 ∷ 0 ∷ 0 ∷ 0 ∷ 0 ∷ 0 ∷ 0 ∷ 209 ∷ 55 ∷ []) ∷ []; outcome = 0; place = 0; notes = []; left = nothing } ∷
+    -- OE 1: the first number of an RDS list is an FM code like the rest
+    record { blocks = other ∷ []; outcome = 0; place = 0; notes = 1 ∷ []; left = O none (some codes) } ∷
+    -- and again: it is shown
+    record { blocks = other ∷ other ∷ []; outcome = 0; place = 0; notes = 2 ∷ []; left = O (some codes) (some codes) } ∷
     []
 
 -- each of them gives what it should

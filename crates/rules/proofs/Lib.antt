@@ -1,7 +1,8 @@
 -- The laws above the definitions of specs/. In order: small helpers; lists in arrays, and with one value more or less; the starred
 -- examples; the laws of collecting over any family, its notes, its runs, two tables of which one leads the other, fields of a held key,
 -- two receptions of which one is better, its table rules, a set that is sent in pieces, and entries by their places; the table rules of
--- linkage taken apart; the fields of a taken block, where they stand, and the linkage sets; the first fault of a refused block.
+-- linkage taken apart; the fields of a taken block, where they stand, and the linkage sets; the first fault of a refused block; what R-3
+-- left as it was.
 pub mod Basics
 pub mod Arrays
 pub mod Shifts
@@ -20,3 +21,4 @@ pub mod Taken
 pub mod Places
 pub mod LinkageLaws
 pub mod FirstFault
+pub mod Before

@@ -13,14 +13,14 @@ use borrow.Author.Tests.{ltb-true, eqb-true, lt-ltb, eq-eqb, ne-eqb}
 use Rattle.rules.specs.declared.Outcome.{Outcome}
 use Rattle.rules.specs.declared.Outcome.the-variants.{Done, NotABlock}
 use Rattle.rules.specs.Block.{Placed, Walk, whole, broken, Fig, figs, checkHolds}
-use Rattle.rules.specs.Field.{Field, keyOf, Pair, pair, pairsOf, startPairs, firstKind, namedBy, hasList, isContinuation, width, rds, drm, wrongValue, emptyStart}
+use Rattle.rules.specs.Field.{Field, keyOf, Pair, pair, pairsOf, startPairs, firstKind, namedBy, hasList, isContinuation, width, dab, rds, drm, wrongValue, emptyStart}
 use Rattle.rules.specs.Family.{start, continuation, noList, addedAll, opening, extended, steps, dropOpen, forget}
-use Rattle.rules.specs.Collecting.{joinNames, linkage, IdSet, Entries, Content, linkageRules, withSets, brings, actOf, said, keyWidth, notEmpty, mayBegin, beginsRight, kindNamed, namesMeet, meets, mostIds}
+use Rattle.rules.specs.Collecting.{joinNames, linkage, IdSet, Entries, Content, linkageRules, withSets, brings, actOf, said, keyWidth, notEmpty, oeOf, firstOf, mayBegin, beginsRight, kindNamed, namesMeet, meets, mostIds}
 use Rattle.rules.specs.Outcomes.{numberOf, Verdict, taken, refused, noBlock, judgeFields, judgeFigs, verdict, Answer, answerTo, readBlock, readBlocks, readRecording, leftOver, forgotten, allFields, some?, firstPlace}
 use Rattle.rules.proofs.Basics.{cases-bool, true-false, cond-cases, cond-both, Every, every-imp, every-map, every-from, every-take, every-drop}
 use Rattle.rules.proofs.FamilyLaws.{Brings, different-addedAll, addedAll-first, opening-first, length-addedAll, every-addedAll, steps-notes}
 use Rattle.rules.proofs.FamilyRules.{FieldMeets, table-steps, table-drop-open, table-forget}
-use Rattle.rules.proofs.TableRules.{lawful, dab-named, names-small, dab-begins, PairMeets, SetMeets, KeyMeets, meaning, Meets, table-meets, join-mod, join-div, join-zero, kind-cases}
+use Rattle.rules.proofs.TableRules.{lawful, dab-named, names-small, first-again, PairMeets, SetMeets, KeyMeets, meaning, Meets, table-meets, join-mod, join-div, join-zero, kind-cases}
 use Rattle.rules.proofs.Taken.{Bytes, FieldBits, GoodField, taken-good, taken-few}
 
 -- ---- names of two lists together
@@ -80,6 +80,10 @@ field-key f g =
     let b = g .bits in
     (omega (arith, b .oe, b .pd, b .hard, b .ils, b .lsn), λ z. g .lsn (omega (arith, b .lsn)))
 
+pub key-oe : (f : Field) → FieldBits f → oeOf (keyOf f) ≡ f .oe
+unfolding keyOf
+key-oe f b = omega (arith, b .oe, b .pd, b .hard, b .ils, b .lsn)
+
 pub key-pd : (f : Field) → FieldBits f → keyOf f / 16384 % 2 ≡ f .pd
 unfolding keyOf
 key-pd f b = omega (arith, b .oe, b .pd, b .hard, b .ils, b .lsn)
@@ -110,12 +114,15 @@ start-pairs w n k q h i (x ∷ ns) b = ((b .0, h), kind-pairs w n q i ns (b .1))
 
 -- a start's first identifier is of a kind that may begin a set of the field's key, and that the field names if it has a name
 pub first-begins : (f : Field) → GoodField f → mayBegin (keyOf f) (firstKind (f .oe) (f .qualifier)) ≡ true
-unfolding firstKind
-first-begins f g = dab-begins (keyOf f)
+unfolding mayBegin firstOf
+first-begins f g =
+    rw (key-oe f (g .bits)) (eq-eqb (firstKind (f .oe) (firstKind (f .oe) (f .qualifier))) (firstKind (f .oe) (f .qualifier)) (first-again (f .oe) (f .qualifier)))
 
 pub first-named : (f : Field) → GoodField f → kindNamed (namedBy (f .qualifier)) (firstKind (f .oe) (f .qualifier)) ≡ true
 unfolding firstKind
-first-named f g = dab-named (namedBy (f .qualifier))
+first-named f g =
+    cond-both (λ (k : ℕ). kindNamed (namedBy (f .qualifier)) k ≡ true) (eqb (f .oe) 1) (f .qualifier) dab
+    (own-named (f .qualifier) (g .bits .qualifier) (g .reserved)) (dab-named (namedBy (f .qualifier)))
 
 pub field-pairs : (f : Field) → GoodField f → Every (PairMeets (keyWidth (keyOf f)) (namedBy (f .qualifier))) (pairsOf f)
 unfolding pairsOf

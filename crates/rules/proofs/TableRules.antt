@@ -1,19 +1,20 @@
 -- The table rules (document 01, Collecting) taken apart and put together again. In this order: the tests of linkage are lawful;
 -- what the rules bound, kinds, names and widths; names of two lists together; pairs that differ; then each rule in its parts, of
--- a pair, a set, an entry and a table, as the tests say them and as what they mean; how many sets a table shows.
+-- a pair, a set, an entry and a table, as the tests say them and as what they mean; how many sets a table shows, and what holds of each.
 use Prim.Native.Nat.{ℕ, _/_, _%_, _^_, _≤_, _<_, max}
 use native.Mathlib.Nat.{pow-le-pow-right}
 use native.Mathlib.Omega.{arith}
-use mathlib.Core.Path.{_≡_, refl}
+use mathlib.Core.Path.{_≡_, refl, sym}
 use mathlib.Core.Logic.{_↔_}
 use mathlib.Core.Bool.{Bool, true, false, not, _&&_, _||_}
 use mathlib.Core.List.{List, [], _∷_, _++_}
+use mathlib.Core.Option.{Option, none, some}
 use lib.ListN.{length}
 use lib.Dec.{leb, ltb, eqb}
 use borrow.Author.Tests.{ltb-true, ltb-false, leb-true, eqb-true, eqb-false, lt-ltb, le-leb, eq-eqb, ne-eqb}
-use Rattle.rules.specs.Field.{Pair, width, dab, rds, drm}
+use Rattle.rules.specs.Field.{Pair, firstKind, width, dab, rds, drm}
 use Rattle.rules.specs.Family.{member, heldMeets}
-use Rattle.rules.specs.Collecting.{samePair, joinNames, linkage, IdSet, Held, Entries, isKey, linkageRules, keyWidth, allDiffer, notEmpty, mayBegin, beginsRight, kindNamed, pairsMeet, namesMeet, setMeets, ifThere, entryMeets, ascends, entriesMeet, setsMeet, showing, shownSets, mostKeys, mostIds}
+use Rattle.rules.specs.Collecting.{samePair, joinNames, linkage, IdSet, Held, Entries, Content, Shown, isKey, linkageRules, keyWidth, allDiffer, notEmpty, oeOf, firstOf, mayBegin, beginsRight, kindNamed, pairsMeet, namesMeet, setMeets, ifThere, entryMeets, ascends, entriesMeet, setsMeet, meets, showing, shownSets, mostKeys, mostIds}
 use Rattle.rules.proofs.Basics.{cases-bool, cases-option, and-left, and-right, and-both, and-three, and-six, or-cases, true-false, not-true, true-not, cond-both, eqb-self, ltb-self, ltb-trans, ltb-or, Every}
 use Rattle.rules.proofs.FamilyLaws.{Lawful, Different}
 use Rattle.rules.proofs.FamilyRules.{items-differ, items-before, Means, HeldMeets, TableMeets, table-means}
@@ -167,14 +168,25 @@ unfolding notEmpty
 not-empty [] h = absurd (omega arith)
 not-empty (p ∷ ps) h = refl
 
--- with a DAB service
-pub begins-dab : (k kind : ℕ) → mayBegin k kind ≡ true → kind ≡ dab
-unfolding mayBegin
-begins-dab k kind h = eqb-true kind dab h
+-- the kind of a start's first identifier is one that a start of that qualifier begins with
+pub first-again : (oe q : ℕ) → firstKind oe (firstKind oe q) ≡ firstKind oe q
+unfolding firstKind
+first-again oe q = cases-bool (eqb oe 1) (λ e. rw e) (λ e. rw e)
 
+-- with OE 0 a DAB service: no RDS code stands first
+pub begins-dab : (k kind : ℕ) → oeOf k ≡ 0 → mayBegin k kind ≡ true → kind ≡ dab
+unfolding mayBegin firstOf firstKind
+begins-dab k kind z h = let e : eqb dab kind ≡ true = rw z at h in sym (eqb-true dab kind e)
+
+-- with OE 1 any kind
+pub any-begins : (k kind : ℕ) → oeOf k ≡ 1 → mayBegin k kind ≡ true
+unfolding mayBegin firstOf firstKind
+any-begins k kind o = rw o (eqb-self kind)
+
+-- a DAB service begins a set of any key
 pub dab-begins : (k : ℕ) → mayBegin k dab ≡ true
-unfolding mayBegin
-dab-begins k = refl
+unfolding mayBegin firstOf firstKind
+dab-begins k = cases-bool (eqb (oeOf k) 1) (λ e. rw e) (λ e. rw e)
 
 -- ---- the rule of a set
 
@@ -312,3 +324,20 @@ shown-few [] = omega arith
 shown-few (e ∷ es) =
     let rest = shown-few es in
     cases-option (e .shown) (λ g. rw g (omega arith)) (λ l g. rw g (omega arith))
+
+-- what holds of every set that meets its rules holds of every set that a table shows
+module _ (P : Shown → Type 0) (each : (s : Shown) → setMeets (s .key) (s .set) ≡ true → P s) where
+  each-showing : (e : Held) (o : Option IdSet) (rest : List Shown) → ifThere (e .key) o ≡ true → Every P rest → Every P (showing e o rest)
+  unfolding showing ifThere
+  each-showing e none rest m h = h
+  each-showing e (some l) rest m h = (each (record { key = e .key; on = e .state; set = l }) m, h)
+
+  each-entry : (t : Entries) → entriesMeet t ≡ true → Every P (shownSets t)
+  unfolding shownSets entriesMeet
+  each-entry [] m = tt
+  each-entry (e ∷ es) m =
+      each-showing e (e .shown) (shownSets es) (entry-rules e .0 (and-left (entryMeets e) (entriesMeet es) m) .shown)
+      (each-entry es (and-right (entryMeets e) (entriesMeet es) m))
+
+  pub each-shown : (t : Content) → meets t ≡ true → Every P (shownSets (t .sets))
+  each-shown t m = each-entry (t .sets) (table-rules (t .sets) .0 m .entries)

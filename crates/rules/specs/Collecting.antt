@@ -5,7 +5,7 @@ use mathlib.Core.List.{List, [], _∷_}
 use mathlib.Core.Option.{Option, none, some}
 use lib.ListN.{length}
 use lib.Dec.{leb, ltb, eqb}
-use Rattle.rules.specs.Field.{Field, keyOf, Pair, pairsOf, namedBy, hasList, isContinuation, width, dab, rds, drm}
+use Rattle.rules.specs.Field.{Field, keyOf, Pair, firstKind, pairsOf, namedBy, hasList, isContinuation, width, dab, rds, drm}
 use Rattle.rules.specs.Family.{Family, Listed, Act, start, continuation, noList, Said, Entry, itemsDiffer, Rules, maybeMeets, heldMeets, goesUp, allMeet, tableMeets}
 
 -- ---- the family of linkage sets
@@ -97,9 +97,17 @@ unfoldable pub notEmpty : List Pair → Bool
 notEmpty [] = false
 notEmpty (p ∷ ps) = true
 
--- the kinds that a set of a key may begin with: a DAB service, whatever the key
+-- a key's OE bit
+abbrev pub oeOf : ℕ → ℕ
+oeOf k = k / 32768 % 2
+
+-- the kind of the first identifier of a key's start, by the start's qualifier
+unfoldable pub firstOf : ℕ → ℕ → ℕ
+firstOf k qualifier = firstKind (oeOf k) qualifier
+
+-- the kinds that a set of a key may begin with: those that a start with that qualifier begins with
 unfoldable pub mayBegin : ℕ → ℕ → Bool
-mayBegin k kind = eqb kind dab
+mayBegin k kind = eqb (firstOf k kind) kind
 
 -- the first, if there is one, is of such a kind
 unfoldable pub beginsRight : ℕ → List Pair → Bool

@@ -140,9 +140,10 @@ hasList f = eqb (f .flag) 1
 unfoldable pub isContinuation : Field → Bool
 isContinuation f = eqb (f .cn) 1
 
--- the kind of a start's first identifier, by the start's OE and qualifier: a DAB service, whatever they are
+-- the kind of a start's first identifier, by the start's OE and qualifier: with OE 0 a DAB service, that of the tuned ensemble; with
+-- OE 1, where the field speaks of another ensemble, of the qualifier's kind like the rest (document 02, R-3)
 unfoldable pub firstKind : ℕ → ℕ → ℕ
-firstKind oe qualifier = dab
+firstKind oe qualifier = cond (eqb oe 1) qualifier dab
 
 -- a start's identifiers: the first of its own kind, the others of the qualifier's
 unfoldable pub startPairs : ℕ → ℕ → List ℕ → List Pair

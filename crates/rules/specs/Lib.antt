@@ -1,5 +1,6 @@
--- Document 01 as definitions, a module for each of its sections, in its order; what demand 3 speaks of, over a family; and how a
--- list stands in an array. What is written for air, on a sheet and as text stands in the crates air, sheet and text.
+-- Document 01 as definitions, a module for each of its sections, in its order; what demand 3 speaks of, over a family; how a list stands
+-- in an array; and what document 01 said before document 02's R-3. What is written for air, on a sheet and as text stands in the crates
+-- pieces, layout and text.
 pub mod Block
 pub mod Field
 pub mod Family
@@ -7,3 +8,4 @@ pub mod Collecting
 pub mod Outcomes
 pub mod Receptions
 pub mod Arrays
+pub mod Before

@@ -4,8 +4,8 @@ use native.Mathlib.Omega.{arith}
 use mathlib.Core.Path.{_≡_, ap}
 use lib.ListN.{length}
 use borrow.Author.Needs.{needs}
-use Rattle.rules.specs.Collecting.{keyWidth, mostIds}
-use Rattle.pieces.specs.Air.{pieceMost, cut}
+use Rattle.rules.specs.Collecting.{mostIds}
+use Rattle.pieces.specs.Air.{cut}
 use Rattle.sets.specs.Shown.{setIn}
 use Rattle.air.proofs.Ranges.{left}
 use Rattle.air.proofs.Sets.{Turn, left-none, part-turn}
@@ -14,7 +14,7 @@ use Rattle.air.proofs.cut_count.Tie as tie
 
 abbrev Inv-loop : tie.InvT-loop
 Inv-loop key list len n₀ from₀ n from =
-    (n ≤ from) × (from ≤ len) × (n + length (left (pieceMost (keyWidth key)) (setIn list .items) from) ≡ length (cut (pieceMost (keyWidth key)) (setIn list .items)))
+    (n ≤ from) × (from ≤ len) × (n + length (left key (setIn list .items) from) ≡ length (cut key (setIn list .items)))
 
 abbrev μ-loop : tie.MeasureT-loop
 μ-loop key list len n₀ from₀ n from = len - from
@@ -31,7 +31,7 @@ add-n c = search needs
 
 -- the range that was found is the next piece
 turn : (c : tie.After-part-at Inv-loop μ-loop)
-    → Turn (pieceMost (keyWidth (c .before .before .before .before .before .before .args .key))) (c .before .before .before .before .before .before .args .t1)
+    → Turn (c .before .before .before .before .before .before .args .key) (c .before .before .before .before .before .before .args .t1)
     (c .before .before .before .before .before .loop .from) (c .part-at .result)
 turn c =
     let s = c .before .before .before .before .before .before in
@@ -55,7 +55,7 @@ returns c =
     let l = c .before .before .args .t1 in
     let nl : length (l .numbers) ≡ mostIds = search needs in
     let kl : length (l .kinds) ≡ mostIds = search needs in (
-      omega (arith, at .inv .2, ap length (left-none l nl kl (c .before .before .pre) (pieceMost (keyWidth (c .before .before .args .key))) (at .from) (at .inv .1) (c .loop-test .left))),
+      omega (arith, at .inv .2, ap length (left-none l nl kl (c .before .before .pre) (c .before .before .args .key) (at .from) (at .inv .1) (c .loop-test .left))),
       omega arith,
     )
 

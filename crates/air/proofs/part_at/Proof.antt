@@ -28,7 +28,7 @@ run-end-requires : tie.Need-run-end-requires
 run-end-requires c κs = omega (arith, c .before .least .ensures, c .before .before .most-of .ensures, most-room (keyWidth (c .before .before .before .before .args .key)))
 
 returns : tie.Need-returns
-returns c = range-made _ _ _ _ _ _ _ (c .before .before .least .ensures ∙ ap (λ (n : ℕ). min (c .before .before .before .before .before .args .len) (c .before .before .before .before .before .args .from + n)) (c .before .before .before .most-of .ensures)) (c .before .qualifier-at .ensures) (c .run-end .ensures)
+returns c = range-made (c .before .before .before .before .before .args .key) _ _ _ _ _ _ (c .before .before .least .ensures ∙ ap (λ (n : ℕ). min (c .before .before .before .before .before .args .len) (c .before .before .before .before .before .args .from + n)) (c .before .before .before .most-of .ensures)) (c .before .qualifier-at .ensures) (c .run-end .ensures)
 
 pub part-at-spec : {M : Type 1} → statement M
 part-at-spec =

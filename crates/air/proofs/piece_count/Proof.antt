@@ -2,8 +2,6 @@
 use native.Mathlib.Omega.{arith}
 use mathlib.Core.Path.{ap, _∙_}
 use Rattle.rules.specs.Block.{bit}
-use Rattle.pieces.specs.Air.{pieceMost}
-use Rattle.rules.specs.Collecting.{keyWidth}
 use Rattle.sets.specs.Shown.{setIn}
 use Rattle.air.proofs.Sets.{pieces-length}
 use borrow.Author.Needs.{needs}
@@ -39,7 +37,7 @@ returns c =
     let r = b .bit-of .ensures .0 ∙ ap bit (b .before .is-dead .ensures) in
     let d = c .bit-of2 .ensures .0 ∙ ap bit (c .before .is-dead2 .ensures) in
     let n = b .before .before .before .before .before .before .before .cut-count .ensures in (
-      omega (arith, n .0, r, d, pieces-length (pieceMost (keyWidth (s .args .key))) (setIn (s .args .t1))),
+      omega (arith, n .0, r, d, pieces-length (s .args .key) (setIn (s .args .t1))),
       omega (arith, n .1, b .bit-of .ensures .1, c .bit-of2 .ensures .1),
     )
 

@@ -4,8 +4,8 @@ use native.Mathlib.Omega.{arith}
 use mathlib.Core.Path.{_≡_, sym, ap, subst}
 use lib.ListN.{length}
 use borrow.Author.Needs.{needs}
-use Rattle.rules.specs.Collecting.{keyWidth, mostIds}
-use Rattle.pieces.specs.Air.{pieceMost, cut, blocksOf}
+use Rattle.rules.specs.Collecting.{mostIds}
+use Rattle.pieces.specs.Air.{cut, blocksOf}
 use Rattle.lists.proofs.StoredLaws.{holds-facts}
 use Rattle.out.proofs.Runs.{Going, going-start, going-on, going-end}
 use Rattle.sets.specs.Shown.{setIn}
@@ -18,14 +18,14 @@ use Rattle.air.proofs.put_cut.Tie as tie
 abbrev Inv-loop : tie.InvT-loop
 Inv-loop out₀ at key on list len p₀ from₀ out p from =
     (from ≤ len)
-    × Going out₀ at (blocksOf key on (cut (pieceMost (keyWidth key)) (setIn list .items))) out p (blocksOf key on (left (pieceMost (keyWidth key)) (setIn list .items) from))
+    × Going out₀ at (blocksOf key on (cut key (setIn list .items))) out p (blocksOf key on (left key (setIn list .items) from))
 
 abbrev μ-loop : tie.MeasureT-loop
 μ-loop out₀ at key on list len p₀ from₀ out p from = len - from
 
 -- the range that was found is the next piece
 turn : (c : tie.After-part-at Inv-loop μ-loop)
-    → Turn (pieceMost (keyWidth (c .before .before .before .before .before .before .before .before .args .key)))
+    → Turn (c .before .before .before .before .before .before .before .before .args .key)
     (c .before .before .before .before .before .before .before .before .args .t5) (c .before .before .before .before .before .loop .from) (c .part-at .result)
 turn c =
     let s = c .before .before .before .before .before .before .before .before in
@@ -84,7 +84,7 @@ returns c =
     let kl : length (l .kinds) ≡ mostIds = search needs in
     going-end
     (ap (blocksOf (s .args .key) (s .args .on))
-    (left-none l nl kl (holds-facts _ _ (s .pre) .short) (pieceMost (keyWidth (s .args .key))) (at .from) (at .inv .0) (c .loop-test .left)))
+    (left-none l nl kl (holds-facts _ _ (s .pre) .short) (s .args .key) (at .from) (at .inv .0) (c .loop-test .left)))
     (at .inv .1)
 
 pub put-cut-spec : {M : Type 1} → statement M

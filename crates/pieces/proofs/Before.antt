@@ -1,0 +1,40 @@
+-- What of writing for air is as it was before document 02's R-3: with OE 0 alone, byte for byte the same output.
+use Prim.Native.Nat.{ℕ}
+use native.Mathlib.Omega.{arith}
+use mathlib.Core.Path.{_≡_, refl, ap, _∙_}
+use mathlib.Core.Bool.{true, false}
+use mathlib.Core.List.{List, [], _∷_}
+use Rattle.rules.specs.Field.{Pair, firstKind}
+use Rattle.rules.specs.Collecting.{Content, Shown, shownSets, meets, keyWidth, oeOf, firstOf, beginsRight}
+use Rattle.pieces.specs.Air.{Piece, pieceMost, pieceWith, chop, startQualifier, cut, pieces, setBlocks, allBlocks, air}
+use Rattle.pieces.specs.Before.{cutBefore, piecesBefore, blocksBefore, airBefore}
+use Rattle.rules.proofs.Basics.{Every}
+use Rattle.rules.proofs.TableRules.{set-rules}
+use Rattle.pieces.proofs.Cutting.{most-room, chop-on, start-next}
+use Rattle.pieces.proofs.ReadBack.{InOrder, shown-order}
+
+-- a set of a key with OE 0 is cut as it was
+pub cut-before : (k : ℕ) (ps : List Pair) → oeOf k ≡ 0 → beginsRight k ps ≡ true → cut k ps ≡ cutBefore (pieceMost (keyWidth k)) ps
+unfolding cut cutBefore beginsRight
+cut-before k [] z h = refl
+cut-before k (p ∷ []) z h = unfold startQualifier firstOf firstKind chop in rw z
+cut-before k (p ∷ (q ∷ qs)) z h =
+    let most : ℕ = pieceMost (keyWidth k) in
+    let c : Piece = record { more = false; qualifier = q .kind; numbers = p .number ∷ [] } in
+    ap (λ (x : ℕ). chop most (record { more = false; qualifier = x; numbers = p .number ∷ [] }) (q ∷ qs)) (start-next k p q qs z h)
+    ∙ chop-on most c q qs refl (omega (arith, most-room (keyWidth k)))
+    ∙ unfold pieceWith in refl
+
+-- all shown sets are of the tuned ensemble
+abbrev pub TunedShown : List Shown → Type 0
+TunedShown ss = Every (λ (s : Shown). oeOf (s .key) ≡ 0) ss
+
+blocks-before : (last : ℕ) (ss : List Shown) → InOrder last ss → TunedShown ss → allBlocks ss ≡ blocksBefore ss
+unfolding allBlocks setBlocks blocksBefore pieces piecesBefore
+blocks-before last [] o z = refl
+blocks-before last (s ∷ ss) o z =
+    rw (cut-before (s .key) (s .set .items) (z .0) (set-rules (s .key) (s .set) .0 (o .1 .right) .first), blocks-before (s .key) ss (o .2) (z .1))
+
+pub air-before : (t : Content) → meets t ≡ true → TunedShown (shownSets (t .sets)) → air t ≡ airBefore t
+unfolding air airBefore
+air-before t h z = blocks-before 0 (shownSets (t .sets)) (shown-order t h) z
