@@ -62,15 +62,14 @@ module _ (k : ℕ) (tuned : oeOf k ≡ 0) (ns ks : List ℕ) where
   held-first (some e) m z = set-first e (e .shown) (rw (m .0) at (m .1 .1 .0)) z
 
   pub copy-out-first : (t : Table) (r : Copied) (ms js : List ℕ) → CopiesOut t k ns ks r ms js → numberOf (r .outcome) ≡ 0 → getD js 0 rds ≡ dab
-  unfolding copyOut copiedAs
+  unfolding copyOut copiedAs notCopied numberOf
   copy-out-first t r ms js (stored c m e a) z =
       let entries = table-meets (c .sets) .0 m .entries in
       let found = within-if (λ (x : Held). (x .key ≡ k) × EntryMeets x) (find linkage k (c .sets))
       (λ x h. (find-key linkage lawful k (c .sets) x h, subst (Within EntryMeets) h (every-found linkage EntryMeets k (c .sets) entries))) in
       ap (λ (x : Outcomes.Copied). getD (x .kinds) 0 rds) a
       ∙ held-first (find linkage k (c .sets)) found (sym (ap (λ (x : Outcomes.Copied). numberOf (x .outcome)) a) ∙ z)
-  copy-out-first t r ms js (notStored n a) z =
-      let o = ap (λ (x : Outcomes.Copied). numberOf (x .outcome)) a in unfold notCopied numberOf in absurd (omega (arith, o, z))
+  copy-out-first t r ms js (notStored n a) z = absurd (omega (arith, ap (λ (x : Outcomes.Copied). numberOf (x .outcome)) a, z))
 
 -- ---- what met the rules before
 
