@@ -1,15 +1,21 @@
--- What of writing for air is as it was before document 02's R-3: with OE 0 alone, byte for byte the same output.
-use Prim.Native.Nat.{ℕ}
+-- What of writing for air is as it was before document 02's R-3: with OE 0 alone, byte for byte the same output, of any such table and of
+-- any such recording.
+use Prim.Native.Nat.{ℕ, _/_, _<_}
 use native.Mathlib.Omega.{arith}
 use mathlib.Core.Path.{_≡_, refl, ap, _∙_}
 use mathlib.Core.Bool.{true, false}
 use mathlib.Core.List.{List, [], _∷_}
+use lib.ListN.{length, getD}
 use Rattle.rules.specs.Field.{Pair, firstKind}
-use Rattle.rules.specs.Collecting.{Content, Shown, shownSets, meets, keyWidth, oeOf, firstOf, beginsRight}
+use Rattle.rules.specs.Collecting.{Entries, Content, Shown, showing, shownSets, meets, keyWidth, oeOf, firstOf, beginsRight}
+use Rattle.rules.specs.Outcomes.{readRecording}
+use Rattle.rules.specs.Before.{recordingBefore}
 use Rattle.pieces.specs.Air.{Piece, pieceMost, pieceWith, chop, startQualifier, cut, pieces, setBlocks, allBlocks, air}
 use Rattle.pieces.specs.Before.{cutBefore, piecesBefore, blocksBefore, airBefore}
-use Rattle.rules.proofs.Basics.{Every}
+use Rattle.rules.proofs.Basics.{cases-option, Every}
 use Rattle.rules.proofs.TableRules.{set-rules}
+use Rattle.rules.proofs.LinkageLaws.{bytes-list, recording-keeps}
+use Rattle.rules.proofs.Before.{TunedBlocks, recording-before, TunedKey, TunedKeys, keys-recording}
 use Rattle.pieces.proofs.Cutting.{most-room, chop-on, start-next}
 use Rattle.pieces.proofs.ReadBack.{InOrder, shown-order}
 
@@ -38,3 +44,18 @@ blocks-before last (s ∷ ss) o z =
 pub air-before : (t : Content) → meets t ≡ true → TunedShown (shownSets (t .sets)) → air t ≡ airBefore t
 unfolding air airBefore
 air-before t h z = blocks-before 0 (shownSets (t .sets)) (shown-order t h) z
+
+-- of a recording without OE 1, into a table without OE 1, what is written for air is as it was
+shown-tuned : (es : Entries) → Every TunedKey es → TunedShown (shownSets es)
+unfolding shownSets showing
+shown-tuned [] z = tt
+shown-tuned (e ∷ es) z =
+    let rest = shown-tuned es (z .1) in
+    cases-option (e .shown) (λ g. rw g rest) (λ l g. rw g (z .0, rest))
+
+pub recording-air-before : (t : Content) (bytes : List ℕ) → meets t ≡ true → TunedKeys t → ((i : ℕ) → getD bytes i 0 < 256)
+    → TunedBlocks (length bytes / 32) bytes → air (readRecording t bytes) ≡ airBefore (recordingBefore t bytes)
+recording-air-before t bytes m k b z =
+    air-before (readRecording t bytes) (recording-keeps t bytes b m)
+    (shown-tuned (readRecording t bytes .sets) (keys-recording t bytes (bytes-list bytes b) z k))
+    ∙ ap airBefore (recording-before t bytes z)

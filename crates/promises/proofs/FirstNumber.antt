@@ -1,6 +1,6 @@
 -- Document 02, R-3, the first number from another ensemble, on the contracts. In order: the guard, that what copy_out gives of a key with OE 0
 -- begins with a DAB service; what met the rules before R-3: it is taken, writes its sheet, and that sheet loads; and that reading without OE 1
--- is as it was, with whatever is made of it. The same of writing for air is `air-before`, crate pieces.
+-- is as it was, with whatever is made of it. The same of what is written for air is `recording-air-before`, crate pieces.
 use Prim.Native.Nat.{ℕ, _/_, _≤_}
 use native.Mathlib.Omega.{arith}
 use mathlib.Core.Path.{_≡_, refl, sym, ap, _∙_, subst}

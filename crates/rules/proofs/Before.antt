@@ -1,8 +1,8 @@
 -- What of document 01 still holds after document 02's R-3. With OE 0 a field says what it said, so a block or a recording without OE 1
 -- reads as before, into any table; a table that met the rules meets them, for keys with OE 0 the rules are the same, and so a shown set with OE
--- 0 begins with a DAB service.
-use Prim.Native.Nat.{ℕ, zero, suc, _/_}
-use mathlib.Core.Path.{_≡_, refl, sym, ap, _∙_}
+-- 0 begins with a DAB service; and of blocks without OE 1 no key with OE 1 comes to be held.
+use Prim.Native.Nat.{ℕ, zero, suc, _/_, _<_}
+use mathlib.Core.Path.{_≡_, refl, sym, _∙_, subst}
 use mathlib.Core.Logic.{_↔_}
 use mathlib.Core.Bool.{Bool, true, cond, _&&_}
 use mathlib.Core.List.{List, [], _∷_, map}
@@ -11,12 +11,15 @@ use lib.ListN.{length, take, drop}
 use lib.Dec.{leb, ltb, eqb}
 use borrow.Author.Tests.{eqb-true, eq-eqb}
 use Rattle.rules.specs.Field.{Field, Pair, dab, firstKind, pairsOf, startPairs}
-use Rattle.rules.specs.Family.{Said, Rules, steps, maybeMeets, heldMeets, allMeet, goesUp, tableMeets}
+use Rattle.rules.specs.Family.{Rules, entryWith, closed, steps, maybeMeets, heldMeets, allMeet, goesUp, tableMeets}
 use Rattle.rules.specs.Collecting.{linkage, IdSet, Held, Entries, Content, brings, actOf, said, isKey, keyWidth, oeOf, mayBegin, beginsRight, notEmpty, allDiffer, pairsMeet, namesMeet, setMeets, setsMeet, meets, Shown, shownSets, mostKeys, mostIds}
 use Rattle.rules.specs.Outcomes.{Verdict, taken, refused, noBlock, verdict, Answer, answerTo, readBlock, readBlocks, readRecording}
 use Rattle.rules.specs.Before.{pairsBefore, bringsBefore, saidBefore, answerBefore, blockBefore, blocksBefore, recordingBefore, beginsDab, setBefore, metBefore}
-use Rattle.rules.proofs.Basics.{and-left, and-right, and-both, and-three, and-six, Every, every-imp}
-use Rattle.rules.proofs.TableRules.{begins-dab, dab-begins, set-rules, each-shown}
+use Rattle.rules.proofs.Basics.{and-left, and-right, and-both, and-three, and-six, Every, every-imp, every-take, every-drop}
+use Rattle.rules.proofs.FamilyLaws.{Keeps, keeps-key, every-steps, every-drop-open}
+use Rattle.rules.proofs.TableRules.{lawful, begins-dab, dab-begins, set-rules, each-shown}
+use Rattle.rules.proofs.Taken.{Bytes, GoodField, taken-good}
+use Rattle.rules.proofs.LinkageLaws.{key-oe, cases-verdict, answer-taken, answer-refused, answer-none}
 
 -- ---- reading
 
@@ -136,14 +139,17 @@ met-before t h = table-passes setBefore setMeets (t .sets) (every (t .sets)) h
     every (e ∷ es) = (set-before (e .key), every es)
 
 -- with keys of OE 0 alone, what meets them met them
+abbrev pub TunedKey : Held → Type 0
+TunedKey e = oeOf (e .key) ≡ 0
+
 abbrev pub TunedKeys : Content → Type 0
-TunedKeys t = Every (λ (e : Held). oeOf (e .key) ≡ 0) (t .sets)
+TunedKeys t = Every TunedKey (t .sets)
 
 pub tuned-met : (t : Content) → TunedKeys t → meets t ≡ true → metBefore t ≡ true
 unfolding metBefore setsMeet
 tuned-met t z h =
     table-passes setMeets setBefore (t .sets)
-    (every-imp (λ (e : Held). oeOf (e .key) ≡ 0) (λ (e : Held). Passes setMeets setBefore (e .key)) (λ e o. set-tuned (e .key) o) (t .sets) z) h
+    (every-imp TunedKey (λ (e : Held). Passes setMeets setBefore (e .key)) (λ e o. set-tuned (e .key) o) (t .sets) z) h
 
 -- ---- the guard
 
@@ -153,3 +159,33 @@ Guarded s = oeOf (s .key) ≡ 0 → beginsDab (s .set .items) ≡ true
 
 pub guarded : (t : Content) → meets t ≡ true → Every Guarded (shownSets (t .sets))
 guarded = each-shown Guarded (λ s m z. begins-tuned (s .key) (s .set .items) z (set-rules (s .key) (s .set) .0 m .first))
+
+-- ---- the keys that come to be held
+
+-- of fields with OE 0 only such keys do
+keys-steps : (t : Entries) (fs : List Field) → Every GoodField fs → Every Tuned fs → Every TunedKey t → Every TunedKey (steps linkage t (map said fs) .0)
+unfolding said
+keys-steps t fs g z h = every-steps linkage lawful TunedKey t (map said fs) (keep fs g z) h
+  where
+    keep : (gs : List Field) → Every GoodField gs → Every Tuned gs → Every (Keeps linkage TunedKey) (map said gs)
+    keep [] g z = tt
+    keep (f ∷ gs) g z = (keeps-key linkage (λ (k : ℕ). oeOf k ≡ 0) (said f) (key-oe f (g .0 .bits) ∙ z .0), keep gs (g .1) (z .1))
+
+keys-block : (t : Content) (fib : List ℕ) → Bytes fib → TunedIn (verdict fib) → TunedKeys t → TunedKeys (readBlock t fib .left)
+unfolding closed entryWith
+keys-block t fib b z h =
+    cases-verdict (verdict fib)
+    (λ fs e. subst (λ (a : Answer). TunedKeys (a .left)) (sym (answer-taken t fib fs e)) (keys-steps (t .sets) fs (taken-good fib fs b e) (subst TunedIn e z) h))
+    (λ o p e. subst (λ (a : Answer). TunedKeys (a .left)) (sym (answer-refused t fib o p e)) (every-drop-open linkage TunedKey (t .sets) (λ x q. q) h))
+    (λ e. subst (λ (a : Answer). TunedKeys (a .left)) (sym (answer-none t fib e)) h)
+
+keys-blocks : (n : ℕ) (t : Content) (bytes : List ℕ) → Bytes bytes → TunedBlocks n bytes → TunedKeys t → TunedKeys (readBlocks n t bytes)
+unfolding readBlocks
+keys-blocks zero t bytes b z h = h
+keys-blocks (suc n) t bytes b z h =
+    keys-blocks n (readBlock t (take 32 bytes) .left) (drop 32 bytes) (every-drop (λ b. b < 256) 32 bytes b) (z .1)
+    (keys-block t (take 32 bytes) (every-take (λ b. b < 256) 32 bytes b) (z .0) h)
+
+pub keys-recording : (t : Content) (bytes : List ℕ) → Bytes bytes → TunedBlocks (length bytes / 32) bytes → TunedKeys t → TunedKeys (readRecording t bytes)
+unfolding readRecording
+keys-recording t bytes b z h = keys-blocks (length bytes / 32) t bytes b z h
