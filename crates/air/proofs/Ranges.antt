@@ -19,7 +19,7 @@ use Rattle.rules.proofs.Basics.{cases-bool, cond-both, and-left, and-right, tru
 use Rattle.rules.proofs.TableRules.{kind-small}
 use Rattle.pieces.proofs.Cutting.{most-room}
 use Rattle.air.specs.declared.Part.{Part}
-use Rattle.air.specs.Parts.{run, startBy, qualifierAt, partAt, pieceIn}
+use Rattle.air.specs.Parts.{run, qualifierAt, partAt, pieceIn}
 use Rattle.air.proofs.Lists.{slice-add, take-min, take-map, drop-map, run-short}
 
 -- ---- a begun piece
@@ -98,10 +98,9 @@ begun k items from =
 
 left-begun : (k : ℕ) (items : List Pair) (from : ℕ) → from < length items
     → left k items from ≡ chop (pieceMost (keyWidth k)) (begun k items from) (drop (suc from) items)
-unfolding left cut startQualifier further begun qualifierAt startBy kindIn numberIn pair
+unfolding left cut further begun qualifierAt kindIn numberIn pair
 left-begun k [] zero h = absurd (omega arith)
-left-begun k (p ∷ []) zero h = refl
-left-begun k (p ∷ (q ∷ qs)) zero h = refl
+left-begun k (p ∷ ps) zero h = refl
 left-begun k items (suc from) h =
     let p : Pair = getD items (suc from) (pair 0 0) in
     let most : ℕ = pieceMost (keyWidth k) in
@@ -154,16 +153,16 @@ left-next k items from h =
 -- ---- what the code finds is the range
 
 -- of a start, by one identifier alone and by the next
-pub start-alone : (k : ℕ) (ks : List ℕ) (len : ℕ) → 0 < len → len < 2 → len ≤ length ks → firstOf k (getD ks 0 0) ≡ startBy k (take len ks)
-unfolding startBy
+pub start-alone : (k : ℕ) (ks : List ℕ) (len : ℕ) → 0 < len → len < 2 → len ≤ length ks → firstOf k (getD ks 0 0) ≡ qualifierAt k (take len ks) 0
+unfolding qualifierAt startQualifier
 start-alone k ks zero z h g = absurd (omega arith)
 start-alone k [] (suc n) z h g = absurd (omega arith)
 start-alone k (x ∷ xs) (suc zero) z h g = refl
 start-alone k (x ∷ xs) (suc (suc n)) z h g = absurd (omega arith)
 
 start-two : (k : ℕ) (ks : List ℕ) (len : ℕ) → 2 ≤ len → len ≤ length ks
-    → cond (eqb (firstOf k (getD ks 1 0)) (getD ks 0 0)) (getD ks 1 0) (getD ks 0 0) ≡ startBy k (take len ks)
-unfolding startBy
+    → cond (eqb (firstOf k (getD ks 1 0)) (getD ks 0 0)) (getD ks 1 0) (getD ks 0 0) ≡ qualifierAt k (take len ks) 0
+unfolding qualifierAt startQualifier
 start-two k ks zero z g = absurd (omega arith)
 start-two k ks (suc zero) z g = absurd (omega arith)
 start-two k [] (suc (suc n)) z g = absurd (omega arith)
@@ -171,12 +170,12 @@ start-two k (x ∷ []) (suc (suc n)) z g = absurd (omega arith)
 start-two k (x ∷ (y ∷ ys)) (suc (suc n)) z g = refl
 
 pub start-next : (k : ℕ) (ks : List ℕ) (len r : ℕ) → 2 ≤ len → len ≤ length ks → r ≡ firstOf k (getD ks 1 0) → r ≡ getD ks 0 0
-    → getD ks 1 0 ≡ startBy k (take len ks)
+    → getD ks 1 0 ≡ qualifierAt k (take len ks) 0
 start-next k ks len r h g e t =
     sym (ap (λ (b : Bool). cond b (getD ks 1 0) (getD ks 0 0)) (eq-eqb (firstOf k (getD ks 1 0)) (getD ks 0 0) (sym e ∙ t))) ∙ start-two k ks len h g
 
 pub start-own : (k : ℕ) (ks : List ℕ) (len r : ℕ) → 2 ≤ len → len ≤ length ks → r ≡ firstOf k (getD ks 1 0) → (r ≡ getD ks 0 0 → ⊥)
-    → getD ks 0 0 ≡ startBy k (take len ks)
+    → getD ks 0 0 ≡ qualifierAt k (take len ks) 0
 start-own k ks len r h g e t =
     sym (ap (λ (b : Bool). cond b (getD ks 1 0) (getD ks 0 0)) (ne-eqb (firstOf k (getD ks 1 0)) (getD ks 0 0) (λ x. t (e ∙ x)))) ∙ start-two k ks len h g
 
@@ -185,8 +184,7 @@ unfolding qualifierAt
 qualifier-there k ks len zero z h = absurd (omega arith)
 qualifier-there k ks len (suc from) z h = sym (getD-take len ks (suc from) 0 h)
 
-pub qualifier-start : (k : ℕ) (ks : List ℕ) (from q : ℕ) → from ≤ 0 → q ≡ startBy k ks → q ≡ qualifierAt k ks from
-unfolding qualifierAt
+pub qualifier-start : (k : ℕ) (ks : List ℕ) (from q : ℕ) → from ≤ 0 → q ≡ qualifierAt k ks 0 → q ≡ qualifierAt k ks from
 qualifier-start k ks zero q z e = e
 qualifier-start k ks (suc from) q z e = absurd (omega arith)
 
@@ -232,9 +230,9 @@ kinds-small w named (p ∷ ps) h zero =
 kinds-small w named (p ∷ ps) h (suc i) = kinds-small w named ps (and-right (ltb (p .number) (256 ^ w) && kindNamed named (p .kind)) (pairsMeet w named ps) h) i
 
 -- a start begins with one of its kinds, or with 0
-start-kind : (k : ℕ) (ks : List ℕ) → ((i : ℕ) → getD ks i 0 < 4) → startBy k ks < 4
-unfolding startBy firstOf firstKind
-start-kind k [] h = omega arith
+start-kind : (k : ℕ) (ks : List ℕ) → ((i : ℕ) → getD ks i 0 < 4) → qualifierAt k ks 0 < 4
+unfolding qualifierAt startQualifier firstOf firstKind
+start-kind k [] h = cond-both (λ (q : ℕ). q < 4) (eqb (oeOf k) 1) 0 0 (omega arith) (omega arith)
 start-kind k (x ∷ []) h = cond-both (λ (q : ℕ). q < 4) (eqb (oeOf k) 1) x 0 (h 0) (omega arith)
 start-kind k (x ∷ (y ∷ ys)) h = cond-both (λ (q : ℕ). q < 4) (eqb (firstOf k y) x) y x (h 1) (h 0)
 

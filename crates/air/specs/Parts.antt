@@ -3,11 +3,11 @@
 use Prim.Native.Nat.{ℕ, zero, suc, _+_, _≤_, _<_}
 use mathlib.Core.Bool.{not, cond}
 use mathlib.Core.List.{List, [], _∷_}
-use lib.ListN.{getD}
+use lib.ListN.{getD, drop}
 use lib.Seq.{slice}
 use lib.Dec.{eqb}
-use Rattle.rules.specs.Collecting.{keyWidth, firstOf}
-use Rattle.pieces.specs.Air.{Piece, pieceMost}
+use Rattle.rules.specs.Collecting.{keyWidth}
+use Rattle.pieces.specs.Air.{Piece, pieceMost, startQualifier}
 use Rattle.air.specs.declared.Part.{Part}
 
 -- how many at the front are of a kind
@@ -15,15 +15,9 @@ unfoldable pub run : ℕ → List ℕ → ℕ
 run k [] = 0
 run k (x ∷ xs) = cond (eqb x k) (suc (run k xs)) 0
 
--- the qualifier of a key's start, by the kinds of the set
-unfoldable pub startBy : ℕ → List ℕ → ℕ
-startBy k [] = 0
-startBy k (x ∷ []) = firstOf k x
-startBy k (x ∷ (y ∷ ys)) = cond (eqb (firstOf k y) x) y x
-
--- the qualifier of the piece that begins at a place: the kind there, but for the start
+-- the qualifier of the piece of a key's set that begins at a place, by the kinds of the set: the kind there, but for the start
 unfoldable pub qualifierAt : ℕ → List ℕ → ℕ → ℕ
-qualifierAt k ks zero = startBy k ks
+qualifierAt k ks zero = startQualifier k (getD ks 0 0) (drop 1 ks)
 qualifierAt k ks (suc from) = getD ks (suc from) 0
 
 -- the piece that begins at a place: the identifier there, and the run of the qualifier's kind that follows, as far as there is

@@ -13,7 +13,7 @@ ghost use Rattle.sets.specs.Stored.{EachHolds};
 ghost use Rattle.sets.specs.Shown.{setIn, shownAs, setsFrom};
 ghost use Rattle.out.specs.Put.{Puts};
 ghost use Rattle.out.specs.Answer.{Outputs};
-ghost use Rattle.air.specs.Parts.{run, startBy, qualifierAt, partAt, pieceIn, Fitting};
+ghost use Rattle.air.specs.Parts.{run, qualifierAt, partAt, pieceIn, Fitting};
 use lists::IdList;
 use lists::is_dead;
 use out::Written;
@@ -56,7 +56,7 @@ fn most_of(key: u32) -> usize
 // first's own, which is 0 with OE 0.
 fn start_qualifier(kinds: &[u8], len: usize, key: u32) -> u8
     requires { ⌜ (0 < len) × (len ≤ length (now kinds)) ⌝ }
-    ensures { λ r. ⌜ r ≡ startBy key (take len (now (kinds .entry))) ⌝ }
+    ensures { λ r. ⌜ r ≡ qualifierAt key (take len (now (kinds .entry))) 0 ⌝ }
 {
     let first = kinds[0];
     if len < 2 {

@@ -4,9 +4,9 @@ use Prim.Native.Nat.{ℕ, _/_, _<_}
 use native.Mathlib.Omega.{arith}
 use mathlib.Core.Path.{_≡_, refl, ap, _∙_}
 use mathlib.Core.Bool.{true, false}
-use mathlib.Core.List.{List, [], _∷_}
+use mathlib.Core.List.{List, [], _∷_, map}
 use lib.ListN.{length, getD}
-use Rattle.rules.specs.Field.{Pair, firstKind}
+use Rattle.rules.specs.Field.{Pair, kindIn, firstKind}
 use Rattle.rules.specs.Collecting.{Entries, Content, Shown, showing, shownSets, meets, keyWidth, oeOf, firstOf, beginsRight}
 use Rattle.rules.specs.Outcomes.{readRecording}
 use Rattle.rules.specs.Before.{recordingBefore}
@@ -21,13 +21,13 @@ use Rattle.pieces.proofs.ReadBack.{InOrder, shown-order}
 
 -- a set of a key with OE 0 is cut as it was
 pub cut-before : (k : ℕ) (ps : List Pair) → oeOf k ≡ 0 → beginsRight k ps ≡ true → cut k ps ≡ cutBefore (pieceMost (keyWidth k)) ps
-unfolding cut cutBefore beginsRight
+unfolding cut cutBefore beginsRight kindIn
 cut-before k [] z h = refl
 cut-before k (p ∷ []) z h = unfold startQualifier firstOf firstKind chop in rw z
 cut-before k (p ∷ (q ∷ qs)) z h =
     let most : ℕ = pieceMost (keyWidth k) in
     let c : Piece = record { more = false; qualifier = q .kind; numbers = p .number ∷ [] } in
-    ap (λ (x : ℕ). chop most (record { more = false; qualifier = x; numbers = p .number ∷ [] }) (q ∷ qs)) (start-next k p q qs z h)
+    ap (λ (x : ℕ). chop most (record { more = false; qualifier = x; numbers = p .number ∷ [] }) (q ∷ qs)) (start-next k (p .kind) (q .kind) (map kindIn qs) z h)
     ∙ chop-on most c q qs refl (omega (arith, most-room (keyWidth k)))
     ∙ unfold pieceWith in refl
 

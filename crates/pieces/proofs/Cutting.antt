@@ -10,10 +10,10 @@ use lib.ListN.{length, length-append}
 use lib.Dec.{ltb, eqb}
 use borrow.Author.Tests.{ltb-true, eqb-true, eqb-false, lt-ltb, eq-eqb}
 use Rattle.rules.specs.Block.{bit}
-use Rattle.rules.specs.Field.{Pair, pair, firstKind, startPairs, namedBy, dab, rds, drm}
+use Rattle.rules.specs.Field.{Pair, pair, kindIn, firstKind, startPairs, namedBy, dab, rds, drm}
 use Rattle.rules.specs.Collecting.{IdSet, joinNames, oeOf, firstOf, mayBegin, kindNamed, pairsMeet, notEmpty, beginsRight, setMeets, keyWidth, mostIds}
 use Rattle.lists.specs.Kinds.{hasKind}
-use Rattle.pieces.specs.Air.{Piece, goesOn, pieceWith, completed, chop, startQualifier, cut, deadLink, pieces, pieceMost}
+use Rattle.pieces.specs.Air.{Piece, goesOn, pieceWith, completed, chop, startQualifier, startOf, cut, deadLink, pieces, pieceMost}
 use Rattle.rules.proofs.Basics.{cases-bool, cond-both, and-left, and-right, and-both, or-cases, or-false-left, or-false-right, true-false, bit-small, Every, every-append, map-append}
 use Rattle.rules.proofs.TableRules.{dab-named, begins-dab, pair-rules, set-rules, kind-cases, join-mod, join-div, names-eq, join-assoc, join-again, join-zero, join-to-zero}
 
@@ -89,21 +89,19 @@ flat-chop k most c (p ∷ ps) h =
     (λ e. rw (e, ending, new-pairs k c p))
 
 -- the first of a start with its qualifier is of its own kind, where it may begin the set
-start-back : (k : ℕ) (p : Pair) (ps : List Pair) → mayBegin k (p .kind) ≡ true → firstOf k (startQualifier k p ps) ≡ p .kind
+start-back : (k x : ℕ) (ks : List ℕ) → mayBegin k x ≡ true → firstOf k (startQualifier k x ks) ≡ x
 unfolding mayBegin startQualifier
-start-back k p [] h = let e = eqb-true (firstOf k (p .kind)) (p .kind) h in ap (firstOf k) e ∙ e
-start-back k p (q ∷ qs) h =
-    cases-bool (eqb (firstOf k (q .kind)) (p .kind))
-    (λ e. rw e (eqb-true (firstOf k (q .kind)) (p .kind) e))
-    (λ e. rw e (eqb-true (firstOf k (p .kind)) (p .kind) h))
+start-back k x [] h = let e = eqb-true (firstOf k x) x h in ap (firstOf k) e ∙ e
+start-back k x (y ∷ ys) h =
+    cases-bool (eqb (firstOf k y) x) (λ e. rw e (eqb-true (firstOf k y) x e)) (λ e. rw e (eqb-true (firstOf k x) x h))
 
 -- all the pairs of a set that begins as it may come back, in order
 pub flat-cut : (k : ℕ) (ps : List Pair) → beginsRight k ps ≡ true → flat k (cut k ps) ≡ ps
 unfolding flat cut beginsRight piecePairs startPairs pair
 flat-cut k [] h = refl
 flat-cut k (p ∷ ps) h =
-    flat-chop k (pieceMost (keyWidth k)) (record { more = false; qualifier = startQualifier k p ps; numbers = p .number ∷ [] }) ps (omega arith)
-    ∙ ap (λ (kind : ℕ). (record { kind = kind; number = p .number }) ∷ ps) (start-back k p ps h)
+    flat-chop k (pieceMost (keyWidth k)) (startOf k p ps) ps (omega arith)
+    ∙ ap (λ (kind : ℕ). (record { kind = kind; number = p .number }) ∷ ps) (start-back k (p .kind) (map kindIn ps) h)
 
 pub flat-append : (k : ℕ) (cs ds : List Piece) → flat k (cs ++ ds) ≡ flat k cs ++ flat k ds
 unfolding flat
@@ -164,7 +162,7 @@ cut-shape : (k : ℕ) (ps : List Pair) → notEmpty ps ≡ true → Shape false 
 unfolding cut notEmpty
 cut-shape k [] h = true-false h refl
 cut-shape k (p ∷ ps) h =
-    chop-shape (pieceMost (keyWidth k)) (record { more = false; qualifier = startQualifier k p ps; numbers = p .number ∷ [] }) ps
+    chop-shape (pieceMost (keyWidth k)) (startOf k p ps) ps
 
 dead-shape : (k : ℕ) (named : Bool) (ps : List Pair) → Every IsMore (deadLink k named ps)
 unfolding deadLink
@@ -215,8 +213,9 @@ pub record PieceMeets (w named most : ℕ) (c : Piece) : Type 0 where
   pub begun : c .more ≡ false → 0 < length (c .numbers)
 
 -- the qualifier of a start is one of its identifiers' kinds, or 0
-start-named : (named k : ℕ) (p : Pair) (ps : List Pair) (w : ℕ) → pairsMeet w named (p ∷ ps) ≡ true → kindNamed named (startQualifier k p ps) ≡ true
-unfolding startQualifier firstOf firstKind
+start-named : (named k : ℕ) (p : Pair) (ps : List Pair) (w : ℕ) → pairsMeet w named (p ∷ ps) ≡ true
+    → kindNamed named (startQualifier k (p .kind) (map kindIn ps)) ≡ true
+unfolding startQualifier firstOf firstKind kindIn
 start-named named k p [] w h =
     cond-both (λ (q : ℕ). kindNamed named q ≡ true) (eqb (oeOf k) 1) (p .kind) dab (pair-rules w named p [] .0 h .kind) (dab-named named)
 start-named named k p (q ∷ qs) w h =
@@ -269,7 +268,7 @@ cut-meets k w named [] h = tt
 cut-meets k w named (p ∷ ps) h =
     let m : 5 < pieceMost (keyWidth k) = most-room (keyWidth k) in
     let r = pair-rules w named p ps .0 h in
-    chop-meets w named (pieceMost (keyWidth k)) (omega arith) (record { more = false; qualifier = startQualifier k p ps; numbers = p .number ∷ [] }) ps
+    chop-meets w named (pieceMost (keyWidth k)) (omega arith) (startOf k p ps) ps
     (record { few = omega arith; within = (r .number, tt); kind = start-named named k p ps w h; begun = λ b. omega arith }) (r .rest)
 
 -- every piece of a set is within the limits
@@ -303,30 +302,30 @@ unfolding chop completed
 chop-on most c p ps e h = rw (goes-on most c p e h)
 
 -- with OE 0 the first two identifiers go into one piece, if the first is one that may begin; with OE 1 they may need two
-pub start-next : (k : ℕ) (p q : Pair) (qs : List Pair) → oeOf k ≡ 0 → mayBegin k (p .kind) ≡ true → startQualifier k p (q ∷ qs) ≡ q .kind
+pub start-next : (k x y : ℕ) (ys : List ℕ) → oeOf k ≡ 0 → mayBegin k x ≡ true → startQualifier k x (y ∷ ys) ≡ y
 unfolding startQualifier firstOf firstKind
-start-next k p q qs z h = rw (z, begins-dab k (p .kind) z h)
+start-next k x y ys z h = rw (z, begins-dab k x z h)
 
-pair-count : (k : ℕ) (p q : Pair) (qs : List Pair) → startQualifier k p (q ∷ qs) ≡ q .kind → length (cut k (p ∷ (q ∷ qs))) ≤ suc (length qs)
+pair-count : (k : ℕ) (p q : Pair) (qs : List Pair) → startQualifier k (p .kind) (map kindIn (q ∷ qs)) ≡ q .kind → length (cut k (p ∷ (q ∷ qs))) ≤ suc (length qs)
 unfolding cut
 pair-count k p q qs e =
     let most : ℕ = pieceMost (keyWidth k) in
-    let c : Piece = record { more = false; qualifier = startQualifier k p (q ∷ qs); numbers = p .number ∷ [] } in
+    let c : Piece = startOf k p (q ∷ qs) in
     rw (chop-on most c q qs (sym e) (omega (arith, most-room (keyWidth k)))) (chop-count most (pieceWith true c q) qs)
 
 cut-count : (k : ℕ) (ps : List Pair) → beginsRight k ps ≡ true → length (cut k ps) ≤ suc (length ps - 2) + oeOf k
-unfolding cut beginsRight
+unfolding cut beginsRight kindIn
 cut-count k [] h = omega arith
 cut-count k (p ∷ []) h =
-    omega (arith, chop-count (pieceMost (keyWidth k)) (record { more = false; qualifier = startQualifier k p []; numbers = p .number ∷ [] }) [])
+    omega (arith, chop-count (pieceMost (keyWidth k)) (startOf k p []) [])
 cut-count k (p ∷ (q ∷ qs)) h =
     cases-bool (eqb (oeOf k) 1)
     (λ e.
     omega
-    (arith, eqb-true (oeOf k) 1 e, chop-count (pieceMost (keyWidth k)) (record { more = false; qualifier = startQualifier k p (q ∷ qs); numbers = p .number ∷ [] }) (q ∷ qs)))
+    (arith, eqb-true (oeOf k) 1 e, chop-count (pieceMost (keyWidth k)) (startOf k p (q ∷ qs)) (q ∷ qs)))
     (λ e.
     let z : oeOf k ≡ 0 = omega (arith, eqb-false (oeOf k) 1 e) in
-    omega (arith, pair-count k p q qs (start-next k p q qs z h)))
+    omega (arith, pair-count k p q qs (start-next k (p .kind) (q .kind) (map kindIn qs) z h)))
 
 dead-count : (k : ℕ) (b : Bool) (ps : List Pair) → length (deadLink k b ps) ≤ 1
 unfolding deadLink
@@ -354,34 +353,34 @@ unfolding hasKind
 rest-absent k p ps h = or-false-right (eqb (p .kind) k) (hasKind k ps) h
 
 -- a start of two identifiers of one kind
-start-same : (k : ℕ) (p q : Pair) (qs : List Pair) → p .kind ≡ q .kind → startQualifier k p (q ∷ qs) ≡ q .kind
+start-same : (k x y : ℕ) (ys : List ℕ) → x ≡ y → startQualifier k x (y ∷ ys) ≡ y
 unfolding startQualifier
-start-same k p q qs e = cond-both (λ (x : ℕ). x ≡ q .kind) (eqb (firstOf k (q .kind)) (p .kind)) (q .kind) (p .kind) refl e
+start-same k x y ys e = cond-both (λ (q : ℕ). q ≡ y) (eqb (firstOf k y) x) y x refl e
 
 -- where all are DAB services, the first three go into one piece
 cut-dab : (k w named : ℕ) (ps : List Pair) → pairsMeet w named ps ≡ true → hasKind rds ps ≡ false → hasKind drm ps ≡ false
     → length (cut k ps) ≤ suc (length ps - 3)
-unfolding cut pieceWith
+unfolding cut pieceWith kindIn
 cut-dab k w named [] h r d = omega arith
 cut-dab k w named (p ∷ []) h r d =
-    omega (arith, chop-count (pieceMost (keyWidth k)) (record { more = false; qualifier = startQualifier k p []; numbers = p .number ∷ [] }) [])
+    omega (arith, chop-count (pieceMost (keyWidth k)) (startOf k p []) [])
 cut-dab k w named (p ∷ (q ∷ qs)) h r d =
     let h1 : pairsMeet w named (q ∷ qs) ≡ true = pair-rules w named p (q ∷ qs) .0 h .rest in
     let r1 : hasKind rds (q ∷ qs) ≡ false = rest-absent rds p (q ∷ qs) r in
     let d1 : hasKind drm (q ∷ qs) ≡ false = rest-absent drm p (q ∷ qs) d in
     let a : q .kind ≡ 0 = first-dab w named q qs h1 r1 d1 in
-    third qs h1 r1 d1 a (start-same k p q qs (first-dab w named p (q ∷ qs) h r d ∙ sym a))
+    third qs h1 r1 d1 a (start-same k (p .kind) (q .kind) (map kindIn qs) (first-dab w named p (q ∷ qs) h r d ∙ sym a))
   where
     most : ℕ
     most = pieceMost (keyWidth k)
 
     third : (rest : List Pair) → pairsMeet w named (q ∷ rest) ≡ true → hasKind rds (q ∷ rest) ≡ false → hasKind drm (q ∷ rest) ≡ false → q .kind ≡ 0
-        → startQualifier k p (q ∷ rest) ≡ q .kind → length (cut k (p ∷ (q ∷ rest))) ≤ suc (suc (suc (length rest)) - 3)
+        → startQualifier k (p .kind) (map kindIn (q ∷ rest)) ≡ q .kind → length (cut k (p ∷ (q ∷ rest))) ≤ suc (suc (suc (length rest)) - 3)
     third [] h1 r1 d1 a e = omega (arith, pair-count k p q [] e)
     third (s ∷ ss) h1 r1 d1 a e =
         let b : s .kind ≡ 0 =
         first-dab w named s ss (pair-rules w named q (s ∷ ss) .0 h1 .rest) (rest-absent rds q (s ∷ ss) r1) (rest-absent drm q (s ∷ ss) d1) in
-        let c : Piece = record { more = false; qualifier = startQualifier k p (q ∷ s ∷ ss); numbers = p .number ∷ [] } in
+        let c : Piece = startOf k p (q ∷ s ∷ ss) in
         let m : 5 < most = most-room (keyWidth k) in
         rw (chop-on most c q (s ∷ ss) (sym e) (omega arith), chop-on most (pieceWith true c q) s ss (b ∙ sym a ∙ sym e) (omega arith))
         (omega (arith, chop-count most (pieceWith true (pieceWith true c q) s) ss))
@@ -450,13 +449,13 @@ start-names k p q n e =
     (λ o. let s : dab ≡ p .kind = rw o at e in rw (sym s) (join-again (namedBy (q .kind)) n ∙ sym (join-zero (joinNames (namedBy (q .kind)) n))))
 
 named-cut : (k : ℕ) (ps : List Pair) → beginsRight k ps ≡ true → piecesNamed (cut k ps) ≡ kindsNamed ps
-unfolding cut beginsRight mayBegin startQualifier piecesNamed kindsNamed
+unfolding cut beginsRight mayBegin startQualifier kindIn piecesNamed kindsNamed
 named-cut k [] h = refl
 named-cut k (p ∷ []) h =
     named-chop (pieceMost (keyWidth k)) (record { more = false; qualifier = firstOf k (p .kind); numbers = p .number ∷ [] }) []
     ∙ ap (λ (q : ℕ). joinNames (namedBy q) 0) (eqb-true (firstOf k (p .kind)) (p .kind) h)
 named-cut k (p ∷ (q ∷ qs)) h =
-    named-chop (pieceMost (keyWidth k)) (record { more = false; qualifier = startQualifier k p (q ∷ qs); numbers = p .number ∷ [] }) (q ∷ qs)
+    named-chop (pieceMost (keyWidth k)) (startOf k p (q ∷ qs)) (q ∷ qs)
     ∙ cases-bool (eqb (firstOf k (q .kind)) (p .kind))
     (λ e. rw e (start-names k p q (kindsNamed qs) (eqb-true (firstOf k (q .kind)) (p .kind) e)))
     (λ e. rw e)

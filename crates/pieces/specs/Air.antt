@@ -1,11 +1,11 @@
 -- Writing for air (document 01): the shown sets as blocks of one linking FIG each.
 use Prim.Native.Nat.{ℕ, zero, suc, _+_, _*_, _/_, _%_, _^_}
 use mathlib.Core.Bool.{Bool, true, false, cond, _&&_}
-use mathlib.Core.List.{List, [], _∷_, _++_}
+use mathlib.Core.List.{List, [], _∷_, _++_, map}
 use lib.ListN.{length, take, replicate}
 use lib.Dec.{ltb, eqb}
 use Rattle.rules.specs.Block.{checkOf, bit}
-use Rattle.rules.specs.Field.{Pair, rds, drm}
+use Rattle.rules.specs.Field.{Pair, kindIn, rds, drm}
 use Rattle.rules.specs.Collecting.{Content, IdSet, Shown, shownSets, keyWidth, firstOf}
 use Rattle.lists.specs.Kinds.{isDead}
 
@@ -40,17 +40,21 @@ unfoldable pub chop : ℕ → Piece → List Pair → List Piece
 chop most c [] = c ∷ []
 chop most c (p ∷ ps) = completed (goesOn most c p) c (chop most (pieceWith (goesOn most c p) c p) ps)
 
--- the qualifier of a start, by its first identifier and those behind it: the kind of the next, where a start of that kind begins with the
--- first; else the first's own. So with OE 0 a start takes the first identifier and the run of one kind that follows, and its qualifier is
+-- the qualifier of a start, by the kind of its first identifier and the kinds behind it: that of the next, where a start of that kind begins
+-- with the first; else the first's own. So with OE 0 a start takes the first identifier and the run of one kind that follows, and its qualifier is
 -- that kind, or 0 if there is one identifier; with OE 1 it takes the first run of one kind, and its qualifier is that (document 02, R-3)
-unfoldable pub startQualifier : ℕ → Pair → List Pair → ℕ
-startQualifier k p [] = firstOf k (p .kind)
-startQualifier k p (q ∷ qs) = cond (eqb (firstOf k (q .kind)) (p .kind)) (q .kind) (p .kind)
+unfoldable pub startQualifier : ℕ → ℕ → List ℕ → ℕ
+startQualifier k x [] = firstOf k x
+startQualifier k x (y ∷ ys) = cond (eqb (firstOf k y) x) y x
+
+-- a start begun with its first identifier, before those that follow
+abbrev pub startOf : ℕ → Pair → List Pair → Piece
+startOf k p ps = record { more = false; qualifier = startQualifier k (p .kind) (map kindIn ps); numbers = p .number ∷ [] }
 
 -- the pieces of a key's identifiers
 unfoldable pub cut : ℕ → List Pair → List Piece
 cut k [] = []
-cut k (p ∷ ps) = chop (pieceMost (keyWidth k)) (record { more = false; qualifier = startQualifier k p ps; numbers = p .number ∷ [] }) ps
+cut k (p ∷ ps) = chop (pieceMost (keyWidth k)) (startOf k p ps) ps
 
 -- a continuation with count 0 for a named kind that has no identifier
 unfoldable pub deadLink : ℕ → Bool → List Pair → List Piece

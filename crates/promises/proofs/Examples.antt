@@ -5,7 +5,7 @@ use mathlib.Core.Bool.{true}
 use mathlib.Core.List.{[], _∷_}
 use mathlib.Core.Option.{some}
 use Rattle.rules.specs.Block.{bits, bit, number, generator, shift, shifts, register, checkOf}
-use Rattle.rules.specs.Field.{width, firstKind, pair}
+use Rattle.rules.specs.Field.{width, kindIn, firstKind, pair}
 use Rattle.rules.specs.Collecting.{keyWidth, firstOf, showing, shownSets}
 use Rattle.rules.proofs.Examples.{E, two, other, codes, O}
 use Rattle.lists.specs.Kinds.{hasKind}
@@ -33,5 +33,5 @@ unfolding listing linesOf lineOf pairsText pairText deadText stateText idsText t
 other-listing-holds = refl
 
 pub other-air-holds : air (O (some codes) (some codes)) ≡ other
-unfolding air allBlocks setBlocks blocksOf blockOf figBytes fieldBytes allBytes bigBytes pieces cut startQualifier chop completed goesOn pieceWith deadLink pieceMost hasKind firstOf firstKind keyWidth width shownSets showing pair bits bit number generator shift shifts register checkOf mathlib.Core.Bool.xor mathlib.Core.List.zipWith
+unfolding air allBlocks setBlocks blocksOf blockOf figBytes fieldBytes allBytes bigBytes pieces cut startQualifier kindIn chop completed goesOn pieceWith deadLink pieceMost hasKind firstOf firstKind keyWidth width shownSets showing pair bits bit number generator shift shifts register checkOf mathlib.Core.Bool.xor mathlib.Core.List.zipWith
 other-air-holds = refl
