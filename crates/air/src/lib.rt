@@ -53,7 +53,7 @@ fn most_of(key: u32) -> usize
 }
 
 // The qualifier of a start: the next identifier's kind, where a start of that kind begins with the first; else the
-// first's own, which is 0 with OE 0.
+// first's own.
 fn start_qualifier(kinds: &[u8], len: usize, key: u32) -> u8
     requires { ⌜ (0 < len) × (len ≤ length (now kinds)) ⌝ }
     ensures { λ r. ⌜ r ≡ qualifierAt key (take len (now (kinds .entry))) 0 ⌝ }

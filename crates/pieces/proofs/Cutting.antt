@@ -88,6 +88,21 @@ flat-chop k most c (p ∷ ps) h =
     (λ e. rw (e, going, with-pairs k c p (goes-kind most c p e) h) (append-assoc (piecePairs k c) (p ∷ []) ps))
     (λ e. rw (e, ending, new-pairs k c p))
 
+-- the qualifier of a start as the documents say it. With OE 0: the kind of the run that follows the first identifier, or 0 if there is one
+pub start-next : (k x y : ℕ) (ys : List ℕ) → oeOf k ≡ 0 → mayBegin k x ≡ true → startQualifier k x (y ∷ ys) ≡ y
+unfolding startQualifier firstOf firstKind
+start-next k x y ys z h = rw (z, begins-dab k x z h)
+
+pub start-alone : (k x : ℕ) → oeOf k ≡ 0 → startQualifier k x [] ≡ dab
+unfolding startQualifier firstOf firstKind
+start-alone k x z = rw z
+
+-- with OE 1: the kind of the first run, also where there is one identifier
+pub start-own : (k x : ℕ) (ks : List ℕ) → oeOf k ≡ 1 → startQualifier k x ks ≡ x
+unfolding startQualifier firstOf firstKind
+start-own k x [] o = rw o
+start-own k x (y ∷ ys) o = cases-bool (eqb y x) (λ e. rw (o, e) (eqb-true y x e)) (λ e. rw (o, e))
+
 -- the first of a start with its qualifier is of its own kind, where it may begin the set
 start-back : (k x : ℕ) (ks : List ℕ) → mayBegin k x ≡ true → firstOf k (startQualifier k x ks) ≡ x
 unfolding mayBegin startQualifier
@@ -302,10 +317,6 @@ unfolding chop completed
 chop-on most c p ps e h = rw (goes-on most c p e h)
 
 -- with OE 0 the first two identifiers go into one piece, if the first is one that may begin; with OE 1 they may need two
-pub start-next : (k x y : ℕ) (ys : List ℕ) → oeOf k ≡ 0 → mayBegin k x ≡ true → startQualifier k x (y ∷ ys) ≡ y
-unfolding startQualifier firstOf firstKind
-start-next k x y ys z h = rw (z, begins-dab k x z h)
-
 pair-count : (k : ℕ) (p q : Pair) (qs : List Pair) → startQualifier k (p .kind) (map kindIn (q ∷ qs)) ≡ q .kind → length (cut k (p ∷ (q ∷ qs))) ≤ suc (length qs)
 unfolding cut
 pair-count k p q qs e =
