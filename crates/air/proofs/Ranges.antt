@@ -153,31 +153,31 @@ left-next k items from h =
 -- ---- what the code finds is the range
 
 -- of a start, by one identifier alone and by the next
-pub start-alone : (k : ℕ) (ks : List ℕ) (len : ℕ) → 0 < len → len < 2 → len ≤ length ks → firstOf k (getD ks 0 0) ≡ qualifierAt k (take len ks) 0
+pub qualifier-alone : (k : ℕ) (ks : List ℕ) (len : ℕ) → 0 < len → len < 2 → len ≤ length ks → firstOf k (getD ks 0 0) ≡ qualifierAt k (take len ks) 0
 unfolding qualifierAt startQualifier
-start-alone k ks zero z h g = absurd (omega arith)
-start-alone k [] (suc n) z h g = absurd (omega arith)
-start-alone k (x ∷ xs) (suc zero) z h g = refl
-start-alone k (x ∷ xs) (suc (suc n)) z h g = absurd (omega arith)
+qualifier-alone k ks zero z h g = absurd (omega arith)
+qualifier-alone k [] (suc n) z h g = absurd (omega arith)
+qualifier-alone k (x ∷ xs) (suc zero) z h g = refl
+qualifier-alone k (x ∷ xs) (suc (suc n)) z h g = absurd (omega arith)
 
-start-two : (k : ℕ) (ks : List ℕ) (len : ℕ) → 2 ≤ len → len ≤ length ks
+qualifier-two : (k : ℕ) (ks : List ℕ) (len : ℕ) → 2 ≤ len → len ≤ length ks
     → cond (eqb (firstOf k (getD ks 1 0)) (getD ks 0 0)) (getD ks 1 0) (getD ks 0 0) ≡ qualifierAt k (take len ks) 0
 unfolding qualifierAt startQualifier
-start-two k ks zero z g = absurd (omega arith)
-start-two k ks (suc zero) z g = absurd (omega arith)
-start-two k [] (suc (suc n)) z g = absurd (omega arith)
-start-two k (x ∷ []) (suc (suc n)) z g = absurd (omega arith)
-start-two k (x ∷ (y ∷ ys)) (suc (suc n)) z g = refl
+qualifier-two k ks zero z g = absurd (omega arith)
+qualifier-two k ks (suc zero) z g = absurd (omega arith)
+qualifier-two k [] (suc (suc n)) z g = absurd (omega arith)
+qualifier-two k (x ∷ []) (suc (suc n)) z g = absurd (omega arith)
+qualifier-two k (x ∷ (y ∷ ys)) (suc (suc n)) z g = refl
 
-pub start-next : (k : ℕ) (ks : List ℕ) (len r : ℕ) → 2 ≤ len → len ≤ length ks → r ≡ firstOf k (getD ks 1 0) → r ≡ getD ks 0 0
+pub qualifier-next : (k : ℕ) (ks : List ℕ) (len r : ℕ) → 2 ≤ len → len ≤ length ks → r ≡ firstOf k (getD ks 1 0) → r ≡ getD ks 0 0
     → getD ks 1 0 ≡ qualifierAt k (take len ks) 0
-start-next k ks len r h g e t =
-    sym (ap (λ (b : Bool). cond b (getD ks 1 0) (getD ks 0 0)) (eq-eqb (firstOf k (getD ks 1 0)) (getD ks 0 0) (sym e ∙ t))) ∙ start-two k ks len h g
+qualifier-next k ks len r h g e t =
+    sym (ap (λ (b : Bool). cond b (getD ks 1 0) (getD ks 0 0)) (eq-eqb (firstOf k (getD ks 1 0)) (getD ks 0 0) (sym e ∙ t))) ∙ qualifier-two k ks len h g
 
-pub start-own : (k : ℕ) (ks : List ℕ) (len r : ℕ) → 2 ≤ len → len ≤ length ks → r ≡ firstOf k (getD ks 1 0) → (r ≡ getD ks 0 0 → ⊥)
+pub qualifier-own : (k : ℕ) (ks : List ℕ) (len r : ℕ) → 2 ≤ len → len ≤ length ks → r ≡ firstOf k (getD ks 1 0) → (r ≡ getD ks 0 0 → ⊥)
     → getD ks 0 0 ≡ qualifierAt k (take len ks) 0
-start-own k ks len r h g e t =
-    sym (ap (λ (b : Bool). cond b (getD ks 1 0) (getD ks 0 0)) (ne-eqb (firstOf k (getD ks 1 0)) (getD ks 0 0) (λ x. t (e ∙ x)))) ∙ start-two k ks len h g
+qualifier-own k ks len r h g e t =
+    sym (ap (λ (b : Bool). cond b (getD ks 1 0) (getD ks 0 0)) (ne-eqb (firstOf k (getD ks 1 0)) (getD ks 0 0) (λ x. t (e ∙ x)))) ∙ qualifier-two k ks len h g
 
 pub qualifier-there : (k : ℕ) (ks : List ℕ) (len from : ℕ) → 0 < from → from < len → getD ks from 0 ≡ qualifierAt k (take len ks) from
 unfolding qualifierAt

@@ -1,7 +1,7 @@
 -- Writing for air as it stood in document 01 before document 02's R-3. No contract cites these; proofs/Before.antt says what of them still
 -- holds.
 use Prim.Native.Nat.{ℕ, _/_, _%_}
-use mathlib.Core.Bool.{true, false}
+use mathlib.Core.Bool.{false}
 use mathlib.Core.List.{List, [], _∷_, _++_}
 use lib.Dec.{eqb}
 use Rattle.rules.specs.Field.{Pair, rds, drm}

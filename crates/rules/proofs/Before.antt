@@ -3,16 +3,15 @@
 -- 0 begins with a DAB service; and of blocks without OE 1 no key with OE 1 comes to be held.
 use Prim.Native.Nat.{ℕ, zero, suc, _/_, _<_}
 use mathlib.Core.Path.{_≡_, refl, sym, _∙_, subst}
-use mathlib.Core.Logic.{_↔_}
-use mathlib.Core.Bool.{Bool, true, cond, _&&_}
+use mathlib.Core.Bool.{Bool, true, _&&_}
 use mathlib.Core.List.{List, [], _∷_, map}
 use mathlib.Core.Option.{Option, none, some}
 use lib.ListN.{length, take, drop}
-use lib.Dec.{leb, ltb, eqb}
+use lib.Dec.{leb, ltb}
 use borrow.Author.Tests.{eqb-true, eq-eqb}
-use Rattle.rules.specs.Field.{Field, Pair, dab, firstKind, pairsOf, startPairs}
+use Rattle.rules.specs.Field.{Field, Pair, dab, firstKind, pairsOf}
 use Rattle.rules.specs.Family.{Rules, entryWith, closed, steps, maybeMeets, heldMeets, allMeet, goesUp, tableMeets}
-use Rattle.rules.specs.Collecting.{linkage, IdSet, Held, Entries, Content, brings, actOf, said, isKey, keyWidth, oeOf, mayBegin, beginsRight, notEmpty, allDiffer, pairsMeet, namesMeet, setMeets, setsMeet, meets, Shown, shownSets, mostKeys, mostIds}
+use Rattle.rules.specs.Collecting.{linkage, IdSet, Held, Entries, Content, brings, actOf, said, isKey, keyWidth, oeOf, beginsRight, notEmpty, allDiffer, pairsMeet, namesMeet, setMeets, setsMeet, meets, Shown, shownSets, mostKeys, mostIds}
 use Rattle.rules.specs.Outcomes.{Verdict, taken, refused, noBlock, verdict, Answer, answerTo, readBlock, readBlocks, readRecording}
 use Rattle.rules.specs.Before.{pairsBefore, bringsBefore, saidBefore, answerBefore, blockBefore, blocksBefore, recordingBefore, beginsDab, setBefore, metBefore}
 use Rattle.rules.proofs.Basics.{and-left, and-right, and-both, and-three, and-six, Every, every-imp, every-take, every-drop}
