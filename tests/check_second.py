@@ -14,6 +14,7 @@ from itertools import groupby, product
 
 sys.dont_write_bytecode = True
 
+import cases
 from making import Dice, block, block_of, damaged, linking_fig, more, short, start, whole_list, with_check
 from material import (BAD_SHEETS, DAB, DRM, GOOD_SHEETS, RDS, faulty_block, largest_sheet, long_sheet, many_sets,
                       most_pieces, random_figs, random_keys, random_pairs, sheet_bytes)
@@ -26,6 +27,7 @@ from second.listing import listing
 from second.replay import Replay, run
 from second.table import (SHOWN_AND_OPENED, Entry, IdList, collect, copy_out, drop_open_lists, forget, meets_rules,
                           read_block, shown_sets)
+from second.totals import totals_text
 
 EXAMPLE = block_of("08 06 E0 04 22 44 B1 44 B1")
 LENGTHS = [1, 1, 2, 2, 3, 6, 7, 8, 9, 12, 13, 14, 24, 25, 36, 127, 128]
@@ -614,6 +616,125 @@ def every_small_set():
     return "%d sets" % sets
 
 
+# Totals
+
+
+def figures_of(form):
+    """The three stored figures."""
+    return form.shown, form.on, form.identifiers
+
+
+def totals_by_hand():
+    """Document 02, R-7: the figures of the examples, typed in by hand, and what does not count."""
+    for count, figures in ((0, "0 0 0"), (1, "0 0 0"), (2, "1 1 2")):
+        script = "".join("b %s\n" % EXAMPLE.hex() for _ in range(count)) + "totals\n"
+        assert run(script.encode())[count:] == ["totals " + figures]
+    script = ["b " + data.hex() for data in (EXAMPLE, EXAMPLE, block_of("03 06 20 04"), damaged(EXAMPLE))]
+    script += ["totals", "x 22", "totals", "u", "totals", "f 2004", "totals", "l 01844001010200B1890101B18901"]
+    script += ["totals", "totals 1", "totals ", "x 21", "x 25", "totals", "l", "totals", "x 24", "totals", "t", "e"]
+    assert run("\n".join(script + ["totals"]).encode()) == [
+        "b 0 1", "b 0 2", "b 0 7", "b 2 @0", "totals 1 0 2", "x", "totals 9", "u", "totals 1 0 2", "f 0",
+        "totals 0 0 0", "l 0", "totals 1 1 2", "?", "?", "?", "?", "totals 1 1 2", "l 10", "totals 0 0 0", "x",
+        "totals 9", "t 9", "e", "totals 0 0 0"]
+    # eight codes under LSN 001; seven regional sets of a service and an FM code each
+    for regional, line in ((0, "shown 8, on 1, identifiers 22\n"), (1, "shown 8, on 7, identifiers 22\n")):
+        recording = b"".join(cases.swiss_cycle(0x4001, regional))
+        assert totals_text(recording * 2) == line and totals_text(recording) == "shown 0, on 0, identifiers 0\n"
+        assert totals_text(recording * 2 + b"12345") == line
+    table = {0x2001: Entry(True), 0x2002: Entry(True, None, IdList([(DAB, 1), (DAB, 2)])),
+             0x2003: Entry(True, IdList([(DAB, 1)], 3), IdList([(DAB, 1), (DAB, 2)])),
+             0x2004: Entry(False, IdList([(DAB, 1), (RDS, 1), (DRM, 1)], 3))}
+    assert figures_of(stored.store(table)) == (2, 1, 4)
+    assert figures_of(stored.store(loaded(largest_sheet()))) == (32, 16, 4096)
+    return "examples, a rest, held keys, open lists, dead links"
+
+
+def counted(lines):
+    """The figures of a printed table, by the form of its lines."""
+    rows = [re.fullmatch("[0-9A-F]{4} (on|off) shown (?:-|[0-3]((?: [DRM][0-9A-F]+)+)) open .*", line).groups()
+            for line in lines[1:]]
+    rows = [(on, ids.split()) for on, ids in rows if ids]
+    return len(rows), len([on for on, _ in rows if on == "on"]), len([number for _, ids in rows for number in ids])
+
+
+def totals_kept():
+    """After any command the stored figures are those that are counted from the printed table."""
+    dice = Dice(16)
+    met, largest = Counter(), 0
+    for count in (1, 2, 5, 12, 33, 60):
+        replay, keys = Replay(), random_keys(dice, count)
+        for _ in range(200):
+            what = dice.below(20)
+            if what < 15:
+                line = "b " + random_block(dice, keys, 5).hex()
+            elif what < 18:
+                line = "f %X" % dice.pick(keys)
+            else:
+                data = sheet.sheet_of(shown_sets(random_table(dice, 6)))
+                line = "l " + (data if what == 18 else data[:-1] or b"\1").hex()
+            answer = replay.answer(line.encode())[0]
+            figures = counted(replay.answer(b"t"))
+            assert replay.answer(b"totals") == ["totals %d %d %d" % figures], line
+            assert figures_of(replay.stored) == figures, line
+            met[answer[:4].strip()] += 1
+            largest = max(largest, figures[2])
+    assert met.keys() >= {"b 0", "b 2", "b 3", "b 4", "b 5", "b 6", "f 0", "f 7", "l 0", "l 10"}, met
+    return "1200 commands, up to %d identifiers" % largest
+
+
+def totals_of_recordings():
+    """The line on a recording against sums over the reader that keeps no table."""
+    dice = Dice(17)
+    lines = set()
+    for count in (1, 2, 4, 10, 40):
+        for _ in range(4):
+            keys = random_keys(dice, count)
+            recording = [random_block(dice, keys, 4) for _ in range(120)]
+            entries = [plain_entry(recording, key) for key in keys]
+            lists = [(entry.on, entry.shown.pairs) for entry in entries if entry and entry.shown]
+            line = "shown %d, on %d, identifiers %d\n" % (
+                len(lists), len([1 for on, _ in lists if on]), sum(len(pairs) for _, pairs in lists))
+            assert totals_text(b"".join(recording)) == line
+            lines.add(line)
+    return "%d different lines" % len(lines)
+
+
+TAKES_TABLE = ["b", "b " + EXAMPLE.hex(), "b " + damaged(EXAMPLE).hex(), "f 2004", "f 0", "c 2004 9 9", "c 0 0 0",
+               "a 0", "a 140000", "s 0", "s 32768", "t", "totals"]
+
+
+def refused_by_all(form):
+    """Every command that takes a table answers 9 and leaves this form as it is; `e` takes none."""
+    replay, before = Replay(), copy.deepcopy(form)
+    replay.stored = form
+    for line in TAKES_TABLE:
+        assert replay.answer(line.encode())[0].split(" ")[:2] == [line.split(" ")[0], "9"], line
+        assert replay.stored == before, line
+    assert replay.answer(b"e") == ["e"] and replay.answer(b"totals") == ["totals 0 0 0"]
+
+
+def wrong_figures():
+    """A figure that is not the sum is 9, for every command that takes a table."""
+    dice = Dice(18)
+    forms = 0
+    for _ in range(40):
+        good = stored.store(random_table(dice, dice.pick([0, 1, 3, 32])))
+        for name in ("shown", "on", "identifiers"):
+            right = getattr(good, name)
+            values = {right + 1, right - 1, 0, 1, 32, 33, 4096, 4097, right + (1 << 32), (1 << 64) - 1}
+            for value in values - {right, -1}:
+                bad = copy.copy(good)
+                setattr(bad, name, value)
+                assert stored.fetch(bad) is None, (name, value)
+                forms += 1
+            refused_by_all(bad)
+    one = IdList([(DAB, 1)])                # the figures say how many, not which
+    table = {0x2001: Entry(True, one), 0x2002: Entry(False, one)}
+    other = {0x2001: Entry(False, one), 0x2002: Entry(True, one)}
+    assert figures_of(stored.store(table)) == figures_of(stored.store(other)) == (2, 1, 2)
+    return "%d forms" % forms
+
+
 # Demand 3
 
 
@@ -718,18 +839,25 @@ def spoilings():
     return ", ".join("%d: %d" % item for item in sorted(done.items()))
 
 
+def figured_anew(form):
+    """The figures that the entries of a stored form say, whatever they are."""
+    held = [entry for entry in form.entries[:form.count] if entry.shown.length]
+    form.shown, form.on = len(held), len([entry for entry in held if entry.on])
+    form.identifiers = sum(entry.shown.length for entry in held)
+
+
 def any_stored_form():
-    """A stored form changed at any place is 9, or it is the form of another good table."""
+    """A stored form changed at any place, with its old figures or new ones, is 9 or the form of another good table."""
     dice = Dice(13)
     good = bad = 0
-    for _ in range(600):
+    for _ in range(800):
         form = stored.store(random_table(dice, 4))
         for _ in range(dice.between(1, 2)):
             entry = dice.pick(form.entries[:5])
             ids = dice.pick([entry.shown, entry.open])
             place = dice.pick([0, 1, 2, 127, dice.below(128)])
             value = dice.pick([0, 1, 2, 3, 4, 129, 255, dice.below(65536)])
-            what = dice.below(7)
+            what = dice.below(8)
             if what == 0:
                 entry.key = value
             elif what == 1:
@@ -742,8 +870,12 @@ def any_stored_form():
                 ids.length = value
             elif what == 5:
                 ids.named = value & 255
+            elif what == 6:
+                setattr(form, dice.pick(["shown", "on", "identifiers"]), value)
             else:
                 form.count = value
+        if dice.chance(50):
+            figured_anew(form)
         table = stored.fetch(form)
         assert table is None or (meets_rules(table) and stored.store(table) == form)
         good += table is not None
@@ -757,8 +889,9 @@ def any_line():
     dice = Dice(12)
     replay = Replay()
     for _ in range(3000):
-        words = [dice.pick(["b", "f", "c", "a", "s", "l", "x", "u", "e", "", "t ", "\r"])]
-        words += [dice.pick(["0", "9", "2004", "1F", "16", "-", "?", "\xff", "", "00"]) for _ in range(dice.below(4))]
+        words = [dice.pick(["b", "f", "c", "a", "s", "l", "x", "u", "e", "", "t ", "\r", "totals"])]
+        words += [dice.pick(["0", "9", "2004", "1F", "16", "22", "-", "?", "\xff", "", "00"])
+                  for _ in range(dice.below(4))]
         line = " ".join(words).encode("latin-1")
         assert len(replay.answer(line)) == (1 if line else 0), line
     return "3000 lines"
@@ -766,7 +899,8 @@ def any_line():
 
 CHECKS = [block_check, examples, decided_points, other_ensemble, reading_over_bits, counted_places, made_places,
           reports, random_reports, plain_reader, air_read_back, sheets_back, sheets_accepted, rules_kept, refusals,
-          bounds, every_small_set, better_and_worse, where_it_fails, spoilings, any_stored_form, any_line]
+          bounds, every_small_set, totals_by_hand, totals_kept, totals_of_recordings, wrong_figures, better_and_worse,
+          where_it_fails, spoilings, any_stored_form, any_line]
 
 
 def main():

@@ -10,6 +10,7 @@ import os
 import re
 import sys
 from collections import Counter
+from itertools import product
 
 sys.dont_write_bytecode = True
 
@@ -17,16 +18,19 @@ import cases
 import other
 import places
 import scenes
+import totals
 from folder import write_files
 from making import Dice, block, block_of, damaged, linking_fig, long, more, start, whole_list, with_check
 from material import (DAB, DRM, FLAGS, RDS, faulty_block, largest_sheet, long_sheet, most_pieces, random_figs,
                       random_keys, random_pairs, sheet_bytes)
 from scenes import EXAMPLE
-from script import Script
+from script import LETTERS, Script
 from second.check import report_text
 from second.columns import csv_text, table_text
 from second.figs import figs_text
 from second.listing import listing, table_of
+from second.spoil import WAYS
+from second.totals import totals_text
 
 HERE = os.path.dirname(os.path.abspath(__file__))
 
@@ -44,6 +48,12 @@ PLACE_REACH = (["b 0"] + ["b %d @0" % outcome for outcome in (1, 2, 9)]
                + ["5 and 6 in one FIG"])
 OTHER_REACH = (READ_REACH + ["b 9", "c 9", "a 0", "a 8", "a 9", "s 0", "s 8", "l 0", "l 10", "t 9", "u", "x 10 ?"]
                + ["x %d done" % way for way in range(1, 17)])
+# Every way in which a block can change the figures; what leaves them.
+STAYS = ["b 1", "b 2", "b 3", "b 4", "b 5", "b 6", "f 7", "c 0", "c 7", "c 8", "c 11", "a 0", "a 8", "s 0", "s 8", "t"]
+TOTALS_REACH = (ALL_REACH[:ALL_REACH.index("?") + 1] + ["totals", "totals 9"] + ["x %d done" % way for way in WAYS]
+                + ["b 0 makes %s %s %s" % signs for signs in product("+=", "+=-", "+=-")]
+                + ["f 0 makes - - -", "f 0 makes - = -", "f 0 makes = = =", "l 0 makes + + +", "l 0 makes - - -",
+                   "l 10 makes - - -", "e makes - - -"] + [what + " makes = = =" for what in STAYS])
 # A shown set that begins with each kind: with OE 1 any, of 16 and 24 bits.
 FIRST_SHOWN = ["[0-3]... (on|off) shown . D", "[4-7]... (on|off) shown 0 D", "[C-F]... (on|off) shown 0 D"]
 FIRST_SHOWN += ["[%s]... (on|off) shown . %s" % (key, letter) for key in ("8A", "9B") for letter in "DRM"]
@@ -277,6 +287,39 @@ def other_script():
     return script
 
 
+# totals.in
+
+
+def totals_script():
+    """Document 02, R-7: the stored totals."""
+    script = Script((*LETTERS, "totals"))
+    totals.by_hand(script)
+    totals.replaced(script)
+    totals.pairs_once(script)
+    totals.turned(script, 0x2004, (0, 0, 1, 1))
+    totals.turned(script, 0xD004, (0, 1))
+    totals.turned_too_long(script, 0x2004)
+    totals.turned_in_one_block(script)
+    totals.opened(script)
+    totals.refused(script)
+    totals.dropped(script, 0x9004)
+    totals.every_change(script)
+    totals.in_one_block(script)
+    totals.every_width(script)
+    totals.forgotten(script)
+    totals.full_table(script)
+    totals.loads(script)
+    totals.largest(script)
+    totals.written(script)
+    totals.each_figure(script)
+    totals.repaired(script)
+    totals.each_way(script)
+    totals.spoiled_twice(script)
+    totals.grammar(script)
+    totals.random_scenes(script, Dice(20240406), 540)
+    return script
+
+
 # large.in
 
 
@@ -442,14 +485,24 @@ def where_it_can(name, script):
     assert not other, (name, other)
 
 
+def figures_stay(name, script):
+    """Fails where a command changed the figures that has to leave them."""
+    changes = [what for what in script.seen if " makes " in what and " makes = = =" not in what]
+    wrong = [what for what in changes if what.split(" makes ")[0] not in ("b 0", "f 0", "l 0", "l 10", "e", "u")]
+    assert not wrong, (name, wrong)
+
+
 def all_files():
     """Path under the folder and bytes of every vector file, and what each script met."""
     scripts = {"examples": examples(), "annex": annex(), "read": read_only(), "random": random_script(),
-               "places": places_script(), "other": other_script(), "large": large()}
+               "places": places_script(), "other": other_script(), "totals": totals_script(), "large": large()}
     reached("read", scripts["read"], READ_REACH)
     reached("random", scripts["random"], ALL_REACH)
     reached("places", scripts["places"], PLACE_REACH)
     reached("other", scripts["other"], OTHER_REACH)
+    reached("totals", scripts["totals"], TOTALS_REACH)
+    answered("totals", scripts["totals"], ["totals 9$", "totals 0 0 0$", "totals 32 32 4096$"])
+    figures_stay("totals", scripts["totals"])
     for name in ("read", "random", "other"):
         answered(name, scripts[name], FIRST_SHOWN)
     assert scripts["read"].seen["commands"] >= 1500 and scripts["random"].seen["commands"] >= 3000
@@ -465,6 +518,7 @@ def all_files():
         files["listing/" + name + ".table"] = table_text(table_of(recording)).encode("ascii")
         files["listing/" + name + ".figs"] = figs_text(recording).encode("ascii")
         files["listing/" + name + ".check"] = report_text(recording).encode("ascii")
+        files["listing/" + name + ".totals"] = totals_text(recording).encode("ascii")
         files["listing/" + name + ".csv"] = csv_text(table_of(recording)).encode("ascii")
     return files, {name: script.seen for name, script in scripts.items()}
 
@@ -477,8 +531,9 @@ def main():
     for name, counts in seen.items():
         print("%s: %d commands" % (name, counts["commands"]))
         total.update(counts)
-    print(", ".join("%s: %d" % (what, total[what]) for what in sorted(total) if "@" not in what))
+    print(", ".join("%s: %d" % (what, total[what]) for what in sorted(total) if not re.search("@| makes ", what)))
     print("%d outcomes with their places" % sum("@" in what for what in total))
+    print("%d ways in which a command changes the figures or leaves them" % sum(" makes " in what for what in total))
     print("%d files, %d bytes" % (len(files), sum(map(len, files.values()))))
 
 

@@ -8,16 +8,20 @@ from second.replay import Replay
 from second.sheet import sheet_of
 from second.table import shown_sets
 
+LETTERS = tuple("ebfcaslxtu")       # the commands of a letter
+
 
 class Script:
-    """Command lines with their answers; `commands` are the letters that may appear."""
+    """Command lines with their answers; `commands` are the first words that may appear."""
 
-    def __init__(self, commands="ebfcaslxtu"):
-        self.commands = commands
+    def __init__(self, commands=LETTERS):
+        self.commands = tuple(commands)
         self.replay = Replay()
         self.lines = []
         self.answers = []
         self.seen = Counter()
+        self.figures = None         # the totals when they were last asked for, None after 9
+        self.since = []             # what was done since
 
     # Commands
 
@@ -31,24 +35,37 @@ class Script:
 
     def do(self, text):
         """A well-formed command; answers its first answer line."""
-        assert text[0] in self.commands, text
-        answer = self.raw(text.encode("ascii"))[0]
-        self.count(text, answer)
-        return answer
+        assert text.split(" ")[0] in self.commands, text
+        answers = self.raw(text.encode("ascii"))
+        self.count(text, answers)
+        return answers[0]
 
-    def count(self, text, answer):
+    def count(self, text, answers):
+        answer = answers[0]
         words = answer.split(" ")
         letter, outcome = words[0], words[1] if len(words) > 1 else ""
         if letter == "x":
-            self.seen["x %d %s" % (int(text.split(" ")[1]), outcome or "done")] += 1
-        elif letter == "t":
-            self.seen["t 9" if answer == "t 9" else "t"] += 1
+            what = "x %d %s" % (int(text.split(" ")[1]), outcome or "done")
+        elif letter in ("t", "totals"):
+            what = answer if answers == [letter + " 9"] else letter
         else:
-            self.seen[(letter + " " + outcome).strip()] += 1
+            what = (letter + " " + outcome).strip()
+        self.seen[what] += 1
+        if letter == "totals":
+            self.count_change(None if what == "totals 9" else [int(word) for word in words[1:]])
+        else:
+            self.since.append(what)
         if letter == "b" and outcome == "0":
             self.seen.update("note " + note for note in words[2:])
         elif letter == "b":
             self.seen[answer] += 1              # with its place
+
+    def count_change(self, figures):
+        """How each figure went where one command stands between two `totals`: `b 0 makes + = -`."""
+        if self.figures and figures and len(self.since) == 1:
+            signs = ["-=+"[(new > old) - (new < old) + 1] for old, new in zip(self.figures, figures)]
+            self.seen["%s makes %s" % (self.since[0], " ".join(signs))] += 1
+        self.figures, self.since = figures, []
 
     def empty(self):
         self.do("e")

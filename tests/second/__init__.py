@@ -9,7 +9,8 @@ beside its section of document 01:
     air.py      Writing for air        sheet.py    The stored sheet
     listing.py  Examples, 16           replay.py, spoil.py   the test scripts
 
-columns.py, figs.py and check.py print what `linkage list --table`, `list
---csv`, `figs` and `check` print.  Places are those of document 02, R-1; what
-begins a set whose OE is 1 is R-3's (field.py, first_is_service).
+columns.py, figs.py, check.py and totals.py print what `linkage list --table`,
+`list --csv`, `figs`, `check` and `totals` print.  Places are those of document
+02, R-1; what begins a set whose OE is 1 is R-3's (field.py, first_is_service);
+the totals are R-7's (table.py, totals).
 """

@@ -136,6 +136,11 @@ class Replay:
             lines.append(" ".join(words + ["open"] + list_words(key, entry.open)))
         return lines
 
+    def print_totals(self):
+        if stored.fetch(self.stored) is None:
+            return ["totals 9"]
+        return ["totals %d %d %d" % (self.stored.shown, self.stored.on, self.stored.identifiers)]
+
     def spoil(self, way):
         if int(way) not in spoil.WAYS:
             return None
@@ -161,6 +166,7 @@ class Replay:
         ("t", print_table),
         ("x " + DECIMAL, spoil),
         ("u", unspoil),
+        ("totals", print_totals),
     )]
 
     def answer(self, line):

@@ -1,4 +1,4 @@
-"""Sixteen ways to break a stored table, for testing outcome 9.
+"""The ways to break a stored table, for testing outcome 9.
 
 "First entry" is the lowest of the 32 places that has what the way needs.  A
 shown set or open list is there when its length is 1 to 128.  Each way is the
@@ -21,8 +21,11 @@ assignment given here on the stored form of stored.py, and nothing else:
      14   first with a shown set                   shown named gets bit 4
      15   first with a shown set and P/D 1         shown named = 1
      16   first with an open list of 2 or more     open pair 1 = open pair 0
+     22   nothing                                  the figure of shown sets is one higher
+     23   nothing                                  the figure of those that are on is one higher
+     24   nothing                                  the figure of their identifiers is one higher
 
-Where the need is not met nothing is spoiled.
+Where the need is not met nothing is spoiled.  No other number is a way.
 """
 
 import copy
@@ -30,7 +33,7 @@ import copy
 from second.field import PD, first_is_service, width
 from second.table import LONGEST, MOST_KEYS
 
-WAYS = range(1, 17)
+WAYS = (*range(1, 17), 22, 23, 24)
 
 
 def is_there(ids):
@@ -177,10 +180,26 @@ def open_pair_twice(table):
     return True
 
 
+def one_shown_more(table):
+    table.shown += 1
+    return True
+
+
+def one_on_more(table):
+    table.on += 1
+    return True
+
+
+def one_identifier_more(table):
+    table.identifiers += 1
+    return True
+
+
 SPOIL = dict(zip(WAYS, (
     swap_entries, too_many_entries, key_twice, key_too_large, key_without_lsn, unused_entry_on,
     list_too_long, past_the_end, shown_pair_twice, first_is_rds, number_too_large, kind_two,
-    present_not_named, named_four, data_with_name, open_pair_twice)))
+    present_not_named, named_four, data_with_name, open_pair_twice,
+    one_shown_more, one_on_more, one_identifier_more)))
 
 
 def spoiled(table, way):

@@ -5,11 +5,14 @@ held entries; an entry has its key, on or off, a shown and an open list; a
 list has 128 numbers, 128 kinds, a length (0 where there is no list) and the
 named kinds.  Keys ascend from entry 0 without gaps; an unused entry, a place
 past a list's length and everything in an absent list is zero.
+
+Document 02, R-7: three figures beside them, which are the totals of the sets
+that the table shows; any other figure makes the form a wrong one.
 """
 
 from dataclasses import dataclass, field
 
-from second.table import Entry, IdList, LONGEST, MOST_KEYS, meets_rules
+from second.table import Entry, IdList, LONGEST, MOST_KEYS, meets_rules, totals
 
 
 def zeros():
@@ -36,6 +39,9 @@ class StoredEntry:
 class StoredTable:
     entries: list = field(default_factory=lambda: [StoredEntry() for _ in range(MOST_KEYS)])
     count: int = 0
+    shown: int = 0              # sets
+    on: int = 0                 # sets that are shown and on
+    identifiers: int = 0        # in the sets that are shown
 
 
 def store_list(ids):
@@ -51,7 +57,8 @@ def store_list(ids):
 
 def store(table):
     """The stored form of a table that meets the rules."""
-    stored = StoredTable(count=len(table))
+    shown, on, identifiers = totals(table)
+    stored = StoredTable(count=len(table), shown=shown, on=on, identifiers=identifiers)
     for place, key in enumerate(sorted(table)):
         entry = table[key]
         stored.entries[place] = StoredEntry(key, entry.on, store_list(entry.shown), store_list(entry.open))

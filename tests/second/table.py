@@ -51,6 +51,20 @@ def shown_sets(table):
     return [(key, table[key]) for key in sorted(table) if table[key].shown is not None]
 
 
+def totals(table):
+    """How many sets are shown, how many of these are on, how many identifiers they have; added up anew.
+
+    Document 02, R-7.  An open list is no shown set, and a key that is held
+    without a shown set counts nowhere, on or off.
+    """
+    shown = on = identifiers = 0
+    for _, entry in shown_sets(table):
+        shown += 1
+        on += 1 if entry.on else 0
+        identifiers += len(entry.shown.pairs)
+    return shown, on, identifiers
+
+
 # Collecting
 
 

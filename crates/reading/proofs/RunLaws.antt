@@ -28,9 +28,7 @@ use Rattle.rules.proofs.TableRules.{Meets, table-meets}
 use Rattle.rules.proofs.LinkageLaws.{meets-steps, meets-drop-open, answer-taken, answer-refused, bytes-list, no-block}
 use Rattle.rules.proofs.Arrays.{set-column}
 use Rattle.table.specs.declared.Table.{Table}
-use Rattle.table.specs.Stored.{tableOf, storeTable}
-use Rattle.sets.specs.declared.Sets.{Sets}
-use Rattle.sets.specs.Stored.{storeSets}
+use Rattle.table.specs.Stored.{storeTable}
 use Rattle.block.specs.declared.Spots.{Spots}
 use Rattle.block.specs.Judged.{noSpots, noSpot}
 use Rattle.block.proofs.Meaning.{SpotIs, noField, SpotsAre}
@@ -68,13 +66,13 @@ resumed r ns c gs =
 
 -- the table stores a content that meets the rules; the spots place the fields of the present block; the notes are those of
 -- the fields passed, and not more starts found no room than bytes are passed; what is left to do makes the whole
-pub record Going (bytes : List ℕ) (t₀ : Table) (t : Sets) (reply : Reply) (spots : Spots) (from at i : ℕ) : Type 0 where
+pub record Going (bytes : List ℕ) (t₀ t : Table) (reply : Reply) (spots : Spots) (from at i : ℕ) : Type 0 where
   pub first : Content
   pub first-meets : meets first ≡ true
   pub first-stored : t₀ ≡ storeTable first
   pub now' : Content
   pub now-meets : meets now' ≡ true
-  pub stored : t ≡ storeSets (now' .sets)
+  pub stored : t ≡ storeTable now'
   pub fields : List FieldOf
   pub placed : SpotsAre (take 32 (drop from bytes)) spots fields
   pub good : Every GoodField fields
@@ -96,7 +94,7 @@ resumed-none r ns c =
     ap₂ (λ (m : List Note) (k : ℕ). record { answer = record { outcome = r .outcome; place = r .place; notes = m; left = c }; full = k }) (append-nil ns) (add-zero (r .full))
 
 pub going-first : (bytes : List ℕ) (t : Table) (reply : Reply) (spots : Spots) (c : Content) → meets c ≡ true → t ≡ storeTable c → reply ≡ noReply → spots ≡ noSpots
-    → Going bytes t (t .sets) reply spots 0 0 0
+    → Going bytes t t reply spots 0 0 0
 unfolding noSpots noReply begun
 going-first bytes t reply spots c m e n s =
     record {
@@ -105,7 +103,7 @@ going-first bytes t reply spots c m e n s =
       first-stored = e;
       now' = c;
       now-meets = m;
-      stored = ap (λ (u : Table). u .sets) e;
+      stored = e;
       fields = [];
       placed = placed-none _ spots (ap (λ (x : Spots). x .count) s);
       good = tt;
@@ -144,7 +142,7 @@ resumed-step r ns i c c' n g gs e =
     ∙ ap₂ (λ (m : List Note) (k : ℕ). record { answer = record { outcome = r .outcome; place = r .place; notes = m; left = withSets c (s .0) }; full = k })
     (sym (append-snoc ns n (s .1))) room
 
-step-meets : (c c' : Entries) (n : Note) (g : FieldOf) → GoodField g → setsMeet c ≡ true → step linkage c (said g) ≡ (c', n) → setsMeet c' ≡ true
+pub step-meets : (c c' : Entries) (n : Note) (g : FieldOf) → GoodField g → setsMeet c ≡ true → step linkage c (said g) ≡ (c', n) → setsMeet c' ≡ true
 unfolding steps
 step-meets c c' n g good m e =
     table-meets c' .1 (subst Meets (ap (λ (r : Entries × Note). r .0) e) (meets-steps c (g ∷ []) (good, tt) (table-meets c .0 m)))
@@ -156,7 +154,7 @@ part-bytes n at bytes b j =
     (λ h. rw (getD-take n (drop at bytes) j 0 (ltb-true j n h), getD-drop at bytes j 0) (b (at + j)))
     (λ h. rw (List·getD-eq-default (take n (drop at bytes)) 0 {n = j} (rw (length-take n (drop at bytes)) (omega (arith, ltb-false j n h)))) (omega arith))
 
-module _ (bytes : List ℕ) (t₀ : Table) (t : Sets) (reply : Reply) (spots : Spots) (from at i : ℕ) (G : Going bytes t₀ t reply spots from at i) where
+module _ (bytes : List ℕ) (t₀ t : Table) (reply : Reply) (spots : Spots) (from at i : ℕ) (G : Going bytes t₀ t reply spots from at i) where
   -- the present field
   pub field-now : FieldOf
   field-now = getD (G .fields) i noField
@@ -179,8 +177,8 @@ module _ (bytes : List ℕ) (t₀ : Table) (t : Sets) (reply : Reply) (spots : S
   pub few-full : i < spots .count → reply .full < length bytes
   few-full h = omega (arith, G .room, G .at-most, more-fields h)
 
-  pub going-next : i < spots .count → (t' : Sets) (reply' : Reply) (n : Note) (c' : Entries) → step linkage (G .now' .sets) (said field-now) ≡ (c', n)
-      → t' ≡ storeSets c' → reply' ≡ replyWith reply i n → Going bytes t₀ t' reply' spots from at (i + 1)
+  pub going-next : i < spots .count → (t' : Table) (reply' : Reply) (n : Note) (c' : Entries) → step linkage (G .now' .sets) (said field-now) ≡ (c', n)
+      → t' ≡ storeTable (withSets (G .now') c') → reply' ≡ replyWith reply i n → Going bytes t₀ t' reply' spots from at (i + 1)
   unfolding field-now replyWith
   going-next h t' reply' n c' e s q =
       record {
@@ -260,8 +258,9 @@ module _ (bytes : List ℕ) (t₀ : Table) (t : Sets) (reply : Reply) (spots : S
             ∙ ap (λ (x : Reply). runBlocks ((length bytes - (at + 32)) / 32) (resumed x [] (G .now') fs) (drop (at + 32) bytes)) (sym n);
       }
 
-  pub going-refused : spots .count ≤ i → 32 ≤ length bytes - at → (t' : Sets) (spots' : Spots) (reply' : Reply) (o : Outcome) (p : ℕ)
-      → verdict (take 32 (drop at bytes)) ≡ refused o p → reply' ≡ replyTo reply o p → spots' .count ≡ 0 → t' ≡ storeSets (dropOpen linkage (G .now' .sets))
+  pub going-refused : spots .count ≤ i → 32 ≤ length bytes - at → (t' : Table) (spots' : Spots) (reply' : Reply) (o : Outcome) (p : ℕ)
+      → verdict (take 32 (drop at bytes)) ≡ refused o p → reply' ≡ replyTo reply o p → spots' .count ≡ 0
+      → t' ≡ storeTable (withSets (G .now') (dropOpen linkage (G .now' .sets)))
       → Going bytes t₀ t' reply' spots' at (at + 32) 0
   unfolding replyTo withoutRoom
   going-refused h l t' spots' reply' o p v n z s =
@@ -292,7 +291,7 @@ module _ (bytes : List ℕ) (t₀ : Table) (t : Sets) (reply : Reply) (spots : S
 
   -- ---- the end
 
-  pub going-end : spots .count ≤ i → length bytes - at < 32 → (u : Table) → u ≡ tableOf t → Runs t₀ bytes (record { reply = reply; table = u })
+  pub going-end : spots .count ≤ i → length bytes - at < 32 → (u : Table) → u ≡ t → Runs t₀ bytes (record { reply = reply; table = u })
   unfolding Runs ranAs runBlocks
   going-end h l u q =
       let e : (length bytes - at) / 32 ≡ 0 = omega arith in
@@ -300,7 +299,7 @@ module _ (bytes : List ℕ) (t₀ : Table) (t : Sets) (reply : Reply) (spots : S
         G .first,
         G .first-meets,
         G .first-stored,
-        (λ j. record { reply = record { outcome = reply .outcome; place = reply .place; full = reply .full; notes = G .notes-are j }; table = (q ∙ ap tableOf (G .stored)) j })
+        (λ j. record { reply = record { outcome = reply .outcome; place = reply .place; full = reply .full; notes = G .notes-are j }; table = (q ∙ G .stored) j })
             ∙ ap ranAs (sym whole),
       )
 

@@ -27,7 +27,8 @@ use Rattle.sets.specs.declared.Sets.{Sets}
 use Rattle.sets.specs.Stored.{storeSets, shownIn, draftIn, openedSets, withLists, past}
 use Rattle.table.specs.declared.Table.{Table}
 use Rattle.table.specs.Stored.{tableOf, Stored}
-use Rattle.table.proofs.GivenLaws.{table-of}
+use Rattle.totals.specs.declared.Totals.{Totals}
+use Rattle.totals.specs.Kept.{exchangedSet}
 use Rattle.sets.specs.Places.{placeIn}
 use Rattle.block.specs.declared.Spots.{Spots}
 use Rattle.block.specs.declared.Judged.{Judged}
@@ -102,23 +103,22 @@ short-packed ls p e h =
 
 -- ---- what the loop keeps
 
--- the sets that were laid out, and the rows since
-pub record Kept (bytes : List ℕ) (t₀ : Table) (l : Sets) (on : List Bool) (sn sk : List ℕ) (s : Rows) (dn dk : List ℕ) (d : Rows) (reply : Reply) (spots : Spots) (from at i : ℕ) : Type 0 where
+-- the sets that were laid out, and the rows and totals since
+pub record Kept (bytes : List ℕ) (t₀ : Table) (l : Sets) (n : Totals) (on : List Bool) (sn sk : List ℕ) (s : Rows) (dn dk : List ℕ) (d : Rows) (reply : Reply) (spots : Spots) (from at i : ℕ) : Type 0 where
   pub shown : Whole sn sk s
   pub draft : Whole dn dk d
   pub shown-laid : Unchanged (l .shown) sn sk s
   pub draft-laid : Unchanged (l .draft) dn dk d
-  pub going : Going bytes t₀ (setsOf l on sn sk s dn dk d) reply spots from at i
+  pub going : Going bytes t₀ (tableOf (setsOf l on sn sk s dn dk d) n) reply spots from at i
 
 module _ (bytes : List ℕ) (t : Table) (stored : Stored t) (sn sk dn dk : List ℕ) (s d : Rows) (p : Laid (t .sets .shown) s sn sk) (q : Laid (t .sets .draft) d dn dk) where
-  pub first-table : tableOf (setsOf (t .sets) (t .sets .on) sn sk s dn dk d) ≡ t
+  pub first-table : tableOf (setsOf (t .sets) (t .sets .on) sn sk s dn dk d) (t .totals) ≡ t
   unfolding Stored
   first-table =
-      ap tableOf (laid (t .sets) (stored .0 .sets) (stored .1) (ap (λ (u : Table). u .sets) (stored .2)) sn sk dn dk s d (p .same) (q .same))
-      ∙ table-of t stored
+      ap (λ (x : Sets). tableOf x (t .totals)) (laid (t .sets) (stored .0 .sets) (stored .1) (ap (λ (u : Table). u .sets) (stored .2)) sn sk dn dk s d (p .same) (q .same))
 
   pub kept-first : (reply : Reply) → reply ≡ noReply → (spots : Spots) → spots ≡ noSpots
-      → Kept bytes (tableOf (setsOf (t .sets) (t .sets .on) sn sk s dn dk d)) (t .sets) (t .sets .on) sn sk s dn dk d reply spots 0 0 0
+      → Kept bytes (tableOf (setsOf (t .sets) (t .sets .on) sn sk s dn dk d) (t .totals)) (t .sets) (t .totals) (t .sets .on) sn sk s dn dk d reply spots 0 0 0
   unfolding Stored
   kept-first reply re spots se =
       record {
@@ -126,15 +126,19 @@ module _ (bytes : List ℕ) (t : Table) (stored : Stored t) (sn sk dn dk : List 
         draft = q .whole;
         shown-laid = unchanged-laid (t .sets .shown) sn sk s (p .same ∙ packed-shown (t .sets) (stored .0 .sets) (stored .1) (ap (λ (u : Table). u .sets) (stored .2)));
         draft-laid = unchanged-laid (t .sets .draft) dn dk d (q .same ∙ packed-draft (t .sets) (stored .0 .sets) (stored .1) (ap (λ (u : Table). u .sets) (stored .2)));
-        going = going-first bytes (tableOf (setsOf (t .sets) (t .sets .on) sn sk s dn dk d)) reply spots (stored .0) (stored .1) (first-table ∙ stored .2) re se;
+        going = going-first bytes (tableOf (setsOf (t .sets) (t .sets .on) sn sk s dn dk d) (t .totals)) reply spots (stored .0) (stored .1) (first-table ∙ stored .2) re se;
       }
 
 -- ---- a turn
 
-module _ {bytes : List ℕ} {t₀ : Table} {l : Sets} {on : List Bool} {sn sk : List ℕ} {s : Rows} {dn dk : List ℕ} {d : Rows} {reply : Reply} {spots : Spots} {from at i : ℕ}
-    (K : Kept bytes t₀ l on sn sk s dn dk d reply spots from at i) where
+module _ {bytes : List ℕ} {t₀ : Table} {l : Sets} {n : Totals} {on : List Bool} {sn sk : List ℕ} {s : Rows} {dn dk : List ℕ} {d : Rows} {reply : Reply} {spots : Spots} {from at i : ℕ}
+    (K : Kept bytes t₀ l n on sn sk s dn dk d reply spots from at i) where
   abbrev t : Sets
   t = setsOf l on sn sk s dn dk d
+
+  -- with the totals
+  abbrev u : Table
+  u = tableOf t n
 
   -- an open list has at most 128 identifiers
   pub draft-short : (p : ℕ) → p < mostKeys → (list : Row) → list ≡ rowOf (getD (d .lens) p 0) (getD (d .names) p 0) → list .len ≤ mostIds
@@ -142,23 +146,23 @@ module _ {bytes : List ℕ} {t₀ : Table} {l : Sets} {on : List Bool} {sn sk : 
   draft-short p hp list le =
       let len-is = ap (λ (x : Row). x .len) le in
       let G = K .going in
-      let short = short-packed (gathered dn dk d) p (packed-draft t (G .now' .sets) (G .now-meets) (G .stored)) (omega (arith, length-gathered dn dk d (K .draft))) in
+      let short = short-packed (gathered dn dk d) p (packed-draft t (G .now' .sets) (G .now-meets) (ap (λ (x : Table). x .sets) (G .stored))) (omega (arith, length-gathered dn dk d (K .draft))) in
       let at-place = ap (λ (l : IdList). l .len) (gathered-at dn dk d (K .draft) p mostIds refl hp) in
       omega arith
 
   -- the end
-  pub kept-end : spots .count ≤ i → length bytes - at < 32 → (u : Table) → t₀ ≡ u → (r : Table) → r ≡ tableOf t
-      → Runs u bytes (record { reply = reply; table = r })
-  kept-end a b u e r re =
-      subst (λ (x : Table). Runs x bytes (record { reply = reply; table = r })) e (going-end bytes t₀ t reply spots from at i (K .going) a b r re)
+  pub kept-end : spots .count ≤ i → length bytes - at < 32 → (v : Table) → t₀ ≡ v → (r : Table) → r ≡ u
+      → Runs v bytes (record { reply = reply; table = r })
+  kept-end a b v e r re =
+      subst (λ (x : Table). Runs x bytes (record { reply = reply; table = r })) e (going-end bytes t₀ u reply spots from at i (K .going) a b r re)
 
   -- a field
   module _ (lt : i < spots .count) (body : List ℕ) (body-is : body ≡ bodyAt (take 32 (drop from bytes)) (getD (spots .spots) i noSpot))
       (f : Field) (f-is : f ≡ fieldIn body (getD (spots .spots) i noSpot .place)) (key : ℕ) (ke : key ≡ keyIn f) (p : ℕ) (p-is : p ≡ placeIn (take (l .count) (l .keys)) key)
       (reply' : Reply) where
-    kept : {l' : Sets} {on' : List Bool} {sn' sk' : List ℕ} {s' : Rows} {dn' dk' : List ℕ} {d' : Rows} → Whole sn' sk' s' → Whole dn' dk' d'
+    kept : {l' : Sets} {n' : Totals} {on' : List Bool} {sn' sk' : List ℕ} {s' : Rows} {dn' dk' : List ℕ} {d' : Rows} → Whole sn' sk' s' → Whole dn' dk' d'
         → Unchanged (l' .shown) sn' sk' s' → Unchanged (l' .draft) dn' dk' d'
-        → Going bytes t₀ (setsOf l' on' sn' sk' s' dn' dk' d') reply' spots from at (i + 1) → Kept bytes t₀ l' on' sn' sk' s' dn' dk' d' reply' spots from at (i + 1)
+        → Going bytes t₀ (tableOf (setsOf l' on' sn' sk' s' dn' dk' d') n') reply' spots from at (i + 1) → Kept bytes t₀ l' n' on' sn' sk' s' dn' dk' d' reply' spots from at (i + 1)
     kept ws wd us ud G = record { shown = ws; draft = wd; shown-laid = us; draft-laid = ud; going = G }
 
     abbrev noted' : Note → Type 0
@@ -211,51 +215,58 @@ module _ {bytes : List ℕ} {t₀ : Table} {l : Sets} {on : List Bool} {sn sk : 
           let b = gathered-set dn dk d (K .draft) p k k-is hp dn' dk' ldn ldk (r .draft .len) (r .draft .named) true in
           ap₂ (withLists l on') (sym a) (sym b)
 
-      pub kept-held : noted' (r .note)
-          → Kept bytes t₀ l on' (put' sn sn') (put' sk sk') (rows' s (r .shown .len) (r .shown .named)) (put' dn dn') (put' dk dk') (rows' d (r .draft .len) (r .draft .named)) reply' spots from at (i + 1)
-      unfolding setsOf
-      kept-held re =
+      -- the set that was shown is known by its row
+      len-is : getD (t .shown) p past .len ≡ getD (s .lens) p 0
+      unfolding rowList
+      len-is = ap (λ (x : IdList). x .len) shown-at ∙ ap (λ (x : Row). x .len) row-is
+
+      pub kept-held : (n' : Totals) → n' ≡ exchangedSet n (getD (s .lens) p 0) (getD on p false) (r .shown .len) (eqb (f .la) 1) → noted' (r .note)
+          → Kept bytes t₀ l n' on' (put' sn sn') (put' sk sk') (rows' s (r .shown .len) (r .shown .named)) (put' dn dn') (put' dk dk') (rows' d (r .draft .len) (r .draft .named)) reply' spots from at (i + 1)
+      unfolding setsOf rowList
+      kept-held n' ne re =
           kept (whole' sn sk s (K .shown) sn' sk' lsn lsk (r .shown .len) (r .shown .named)) (whole' dn dk d (K .draft) dn' dk' ldn ldk (r .draft .len) (r .draft .named))
           (unchanged' (l .shown) sn sk s (K .shown) (K .shown-laid) sn' sk' lsn lsk (r .shown .len) (r .shown .named)) (unchanged' (l .draft) dn dk d (K .draft) (K .draft-laid) dn' dk' ldn ldk (r .draft .len) (r .draft .named))
-          (subst (λ (u : Sets). Going bytes t₀ u reply' spots from at (i + 1)) table-is
-          (turn-held bytes t₀ t reply spots from at i (K .going) lt body body-is f f-is key ke p p-is b
+          (subst (λ (x : Sets). Going bytes t₀ (tableOf x n') reply' spots from at (i + 1)) table-is
+          (turn-held bytes t₀ u reply spots from at i (K .going) lt body body-is f f-is key ke p p-is b
           (record { draft = rowList dn' dk' (r .draft); shows = isShowing (r .note); note = r .note })
           (subst (λ (l : IdList). HeldStep body f l (record { draft = rowList dn' dk' (r .draft); shows = isShowing (r .note); note = r .note })) (sym draft-at) (step .drafted))
-          (rowList sn' sk' (r .shown)) (step .showing ∙ ap₂ (λ (x y : IdList). cond (isShowing (r .note)) x y) (sym draft-at) (sym shown-at)) reply' re))
+          (rowList sn' sk' (r .shown)) (step .showing ∙ ap₂ (λ (x y : IdList). cond (isShowing (r .note)) x y) (sym draft-at) (sym shown-at))
+          n' (ne ∙ sym (ap (λ (k : ℕ). exchangedSet n k (getD on p false) (r .shown .len) (eqb (f .la) 1)) len-is)) reply' re))
 
     -- of a key that is not held
     module _ (b : (ltb p (l .count) && eqb (getD (l .keys) p 0) key) ≡ false) where
       pub kept-new : opensIn f (l .count) ≡ true → ((n : ℕ) → getD bytes n 0 < 256) → (t' now' : Sets) → now' ≡ t → t' ≡ openedSets now' p key (eqb (f .la) 1) (withField emptyList body f .list)
           → (sn' sk' dn' dk' : List ℕ) (s' d' : Rows) → Laid (t' .shown) s' sn' sk' → Laid (t' .draft) d' dn' dk' → noted' Opened
-          → Kept bytes t₀ t' (t' .on) sn' sk' s' dn' dk' d' reply' spots from at (i + 1)
+          → Kept bytes t₀ t' n (t' .on) sn' sk' s' dn' dk' d' reply' spots from at (i + 1)
       unfolding setsOf
       kept-new open' b256 t' now' ne te sn' sk' dn' dk' s' d' ps pd re =
-          let G = turn-new bytes t₀ t reply spots from at i (K .going) lt body body-is f f-is key ke p p-is b open' b256 emptyList (withField emptyList body f) refl refl
-          t' (te ∙ ap (λ (u : Sets). openedSets u p key (eqb (f .la) 1) (withField emptyList body f .list)) ne) reply' re in
+          let G = turn-new bytes t₀ u reply spots from at i (K .going) lt body body-is f f-is key ke p p-is b open' b256 emptyList (withField emptyList body f) refl refl
+          t' (te ∙ ap (λ (x : Sets). openedSets x p key (eqb (f .la) 1) (withField emptyList body f .list)) ne) reply' re in
+          let store = ap (λ (x : Table). x .sets) (G .stored) in
           kept (ps .whole) (pd .whole)
-          (unchanged-laid (t' .shown) sn' sk' s' (ps .same ∙ packed-shown t' (G .now' .sets) (G .now-meets) (G .stored))) (unchanged-laid (t' .draft) dn' dk' d' (pd .same ∙ packed-draft t' (G .now' .sets) (G .now-meets) (G .stored)))
-          (subst (λ (u : Sets). Going bytes t₀ u reply' spots from at (i + 1)) (sym (laid t' (G .now' .sets) (G .now-meets) (G .stored) sn' sk' dn' dk' s' d' (ps .same) (pd .same))) G)
+          (unchanged-laid (t' .shown) sn' sk' s' (ps .same ∙ packed-shown t' (G .now' .sets) (G .now-meets) store)) (unchanged-laid (t' .draft) dn' dk' d' (pd .same ∙ packed-draft t' (G .now' .sets) (G .now-meets) store))
+          (subst (λ (x : Sets). Going bytes t₀ (tableOf x n) reply' spots from at (i + 1)) (sym (laid t' (G .now' .sets) (G .now-meets) store sn' sk' dn' dk' s' d' (ps .same) (pd .same))) G)
 
-      pub kept-same : opensIn f (l .count) ≡ false → (n : Note) → n ≡ unheldNote f → noted' n → Kept bytes t₀ l on sn sk s dn dk d reply' spots from at (i + 1)
+      pub kept-same : opensIn f (l .count) ≡ false → (m : Note) → m ≡ unheldNote f → noted' m → Kept bytes t₀ l n on sn sk s dn dk d reply' spots from at (i + 1)
       unfolding setsOf
-      kept-same shut' n ne re =
+      kept-same shut' m me re =
           kept (K .shown) (K .draft) (K .shown-laid) (K .draft-laid)
-          (turn-same bytes t₀ t reply spots from at i (K .going) lt body body-is f f-is key ke p p-is b shut' n ne reply' re)
+          (turn-same bytes t₀ u reply spots from at i (K .going) lt body body-is f f-is key ke p p-is b shut' m me reply' re)
 
   -- a block
   module _ (a : spots .count ≤ i) (more : 32 ≤ length bytes - at) (b256 : (n : ℕ) → getD bytes n 0 < 256) (part : List ℕ) (part-is : part ≡ take 32 (drop at bytes)) (r : Judged)
       (judged : JudgedAs part (verdict part) r) (reply' : Reply) (re : reply' ≡ replyTo reply (r .outcome) (r .place)) where
-    pub kept-taken : isDone (r .outcome) ≡ true → Kept bytes t₀ l on sn sk s dn dk d reply' (r .spots) at (at + 32) 0
+    pub kept-taken : isDone (r .outcome) ≡ true → Kept bytes t₀ l n on sn sk s dn dk d reply' (r .spots) at (at + 32) 0
     kept-taken y =
         record {
           shown = K .shown;
           draft = K .draft;
           shown-laid = K .shown-laid;
           draft-laid = K .draft-laid;
-          going = turn-taken bytes t₀ t reply spots from at i (K .going) a more b256 part part-is r reply' re judged y;
+          going = turn-taken bytes t₀ u reply spots from at i (K .going) a more b256 part part-is r reply' re judged y;
         }
 
-    pub kept-refused : isDone (r .outcome) ≡ false → (d' : Rows) → d' ≡ noRows → Kept bytes t₀ l on sn sk s dn dk d' reply' (r .spots) at (at + 32) 0
+    pub kept-refused : isDone (r .outcome) ≡ false → (d' : Rows) → d' ≡ noRows → Kept bytes t₀ l n on sn sk s dn dk d' reply' (r .spots) at (at + 32) 0
     unfolding setsOf
     kept-refused y d' de =
         let no-lists : gathered dn dk d' ≡ replicate mostKeys emptyList = ap (gathered dn dk) de ∙ gathered-none dn dk in
@@ -265,6 +276,6 @@ module _ {bytes : List ℕ} {t₀ : Table} {l : Sets} {on : List Bool} {sn sk : 
           shown-laid = K .shown-laid;
           draft-laid = subst (Unchanged (l .draft) dn dk) (sym de) (unchanged-none (l .draft) dn dk);
           going =
-              subst (λ (x : List IdList). Going bytes t₀ (withLists l on (gathered sn sk s) x) reply' (r .spots) at (at + 32) 0) (sym no-lists)
-              (turn-refused bytes t₀ t reply spots from at i (K .going) a more b256 part part-is r reply' re judged y emptyList refl);
+              subst (λ (x : List IdList). Going bytes t₀ (tableOf (withLists l on (gathered sn sk s) x) n) reply' (r .spots) at (at + 32) 0) (sym no-lists)
+              (turn-refused bytes t₀ u reply spots from at i (K .going) a more b256 part part-is r reply' re judged y emptyList refl);
         }

@@ -20,7 +20,7 @@ use Rattle.rules.specs.declared.Note.the-variants.{Opened, Full, UnknownKey}
 use Rattle.rules.specs.Field.{Field as FieldOf, keyOf}
 use Rattle.rules.specs.Family.{Act, start, continuation, noList, step, onHeld, fresh, insert, opening, dropOpen}
 use Rattle.rules.specs.Receptions.{heldKeys}
-use Rattle.rules.specs.Collecting.{linkage, Held, Entries, said, actOf, brings, ifThere, mostKeys}
+use Rattle.rules.specs.Collecting.{linkage, Held, Entries, withSets, said, actOf, brings, ifThere, setsMeet, shownSets, mostKeys}
 use Rattle.rules.proofs.FamilyLaws.{Ascends, onHeld-key}
 use Rattle.rules.proofs.Basics.{cases-bool, and-left, and-right}
 use Rattle.rules.proofs.TableRules.{table-rules, table-meets, entry-rules}
@@ -35,8 +35,13 @@ use Rattle.lists.specs.Stored.{storeList, emptyList, storeMaybe}
 use Rattle.lists.specs.Grown.{withField}
 use Rattle.lists.proofs.GrownLaws.{with-none}
 use Rattle.sets.specs.declared.Sets.{Sets}
+use Rattle.totals.specs.declared.Totals.{Totals}
+use Rattle.totals.specs.Totals.{sums, totalsOf}
+use Rattle.totals.specs.Kept.{exchangedSet}
+use Rattle.totals.proofs.Laws.{sums-exchanged, sums-opened, shown-closed}
 use Rattle.table.specs.declared.Table.{Table}
-use Rattle.sets.specs.Stored.{shownIn, draftIn, storeSets, openedSets, withDraft, past}
+use Rattle.table.specs.Stored.{tableOf, storeTable}
+use Rattle.sets.specs.Stored.{onIn, shownIn, draftIn, storeSets, openedSets, withDraft, past}
 use Rattle.sets.specs.Stored as S
 use Rattle.sets.specs.Places.{placeIn}
 use Rattle.sets.proofs.Entries.{noEntry, Here, entry-at}
@@ -52,7 +57,7 @@ use Rattle.reading.specs.Steps.{ListStep, isShowing, steppedAs, HeldStep
 use Rattle.reading.specs.Runs.{replyTo, replyWith}
 use Rattle.reading.proofs.HeldLaws.{act-none, act-more, act-start}
 use Rattle.reading.proofs.StepLaws.{at', step-here, step-new, step-full, step-unknown-more, step-unknown-none, store-new, held-state, held-shown}
-use Rattle.reading.proofs.RunLaws.{Going, field-now, spot-now, good-now, more-fields, few-fields, few-full, going-next, going-taken, going-refused, part-bytes}
+use Rattle.reading.proofs.RunLaws.{Going, field-now, spot-now, good-now, more-fields, few-fields, few-full, going-next, going-taken, going-refused, step-meets, part-bytes}
 
 -- ---- a part of a part
 
@@ -86,9 +91,9 @@ body-of bytes from s o e =
 
 -- ---- a turn at a field
 
-module _ (bytes : List ℕ) (t₀ : Table) (t : Sets) (reply : Reply) (spots : Spots) (from at i : ℕ) (G : Going bytes t₀ t reply spots from at i)
+module _ (bytes : List ℕ) (t₀ t : Table) (reply : Reply) (spots : Spots) (from at i : ℕ) (G : Going bytes t₀ t reply spots from at i)
     (h : i < spots .count) (body : List ℕ) (body-is : body ≡ bodyAt (take 32 (drop from bytes)) (getD (spots .spots) i noSpot))
-    (f : Field) (f-is : f ≡ fieldIn body (getD (spots .spots) i noSpot .place)) (key : ℕ) (ke : key ≡ keyIn f) (p : ℕ) (p-is : p ≡ placeIn (take (t .count) (t .keys)) key) where
+    (f : Field) (f-is : f ≡ fieldIn body (getD (spots .spots) i noSpot .place)) (key : ℕ) (ke : key ≡ keyIn f) (p : ℕ) (p-is : p ≡ placeIn (take (t .sets .count) (t .sets .keys)) key) where
   abbrev at-place : ℕ
   at-place = getD (spots .spots) i noSpot .place
 
@@ -97,6 +102,14 @@ module _ (bytes : List ℕ) (t₀ : Table) (t : Sets) (reply : Reply) (spots : S
 
   c : Entries
   c = G .now' .sets
+
+  sets-are : t .sets ≡ storeSets c
+  unfolding c
+  sets-are = ap (λ (u : Table). u .sets) (G .stored)
+
+  totals-are : t .totals ≡ sums (shownSets c)
+  unfolding c totalsOf
+  totals-are = ap (λ (u : Table). u .totals) (G .stored)
 
   spot : SpotIs (take 32 (drop from bytes)) (getD (spots .spots) i noSpot) g
   unfolding g
@@ -123,25 +136,25 @@ module _ (bytes : List ℕ) (t₀ : Table) (t : Sets) (reply : Reply) (spots : S
   reserved q = good-now bytes t₀ t reply spots from at i G h .reserved (sym (ap (λ (x : FieldOf). x .qualifier) means) ∙ q)
 
   -- the key stands at its place, or nowhere
-  here : (ltb p (t .count) && eqb (getD (t .keys) p 0) key) ≡ true → Here c (keyOf g)
+  here : (ltb p (t .sets .count) && eqb (getD (t .sets .keys) p 0) key) ≡ true → Here c (keyOf g)
   unfolding c
   here b =
       subst (Here c) key-is
-      (stands t c (G .stored) p key p-is b)
+      (stands (t .sets) c sets-are p key p-is b)
 
-  nowhere : (ltb p (t .count) && eqb (getD (t .keys) p 0) key) ≡ false → Here c (keyOf g) → ⊥
+  nowhere : (ltb p (t .sets .count) && eqb (getD (t .sets .keys) p 0) key) ≡ false → Here c (keyOf g) → ⊥
   unfolding c
   nowhere b there =
-      stands-not t c (G .stored) p key p-is b (subst (Here c) (sym key-is) there)
+      stands-not (t .sets) c sets-are p key p-is b (subst (Here c) (sym key-is) there)
 
   place : p ≡ placeIn (map S.keyIn c) (keyOf g)
   unfolding c
-  place = p-is ∙ place-at t c (G .stored) key ∙ ap (placeIn (map S.keyIn c)) key-is
+  place = p-is ∙ place-at (t .sets) c sets-are key ∙ ap (placeIn (map S.keyIn c)) key-is
 
   -- ---- a held key
 
-  module _ (b : (ltb p (t .count) && eqb (getD (t .keys) p 0) key) ≡ true) (r : ListStep)
-      (held : HeldStep body f (getD (t .draft) p past) r) where
+  module _ (b : (ltb p (t .sets .count) && eqb (getD (t .sets .keys) p 0) key) ≡ true) (r : ListStep)
+      (held : HeldStep body f (getD (t .sets .draft) p past) r) where
     j : ℕ
     j = placeIn (map S.keyIn c) (keyOf g)
 
@@ -152,16 +165,20 @@ module _ (bytes : List ℕ) (t₀ : Table) (t : Sets) (reply : Reply) (spots : S
     x : Held
     x = at' c (keyOf g)
 
-    column : {B : Type 0} (v : Held → B) (d e : B) (ys : Sets → List B) → ys (storeSets c) ≡ padded mostKeys d (map v c) → getD (ys t) p e ≡ v x
+    column : {B : Type 0} (v : Held → B) (d e : B) (ys : Sets → List B) → ys (storeSets c) ≡ padded mostKeys d (map v c) → getD (ys (t .sets)) p e ≡ v x
     unfolding c j x
     column v d e ys q =
-        ap₂ (λ (u : Sets) (k : ℕ). getD (ys u) k e) (G .stored) place ∙ ap (λ (l : List _). getD l j e) q ∙ column-at v mostKeys d c j e noEntry within
+        ap₂ (λ (u : Sets) (k : ℕ). getD (ys u) k e) sets-are place ∙ ap (λ (l : List _). getD l j e) q ∙ column-at v mostKeys d c j e noEntry within
 
-    shown-is : getD (t .shown) p past ≡ storeMaybe (x .shown)
+    shown-is : getD (t .sets .shown) p past ≡ storeMaybe (x .shown)
     unfolding storeSets shownIn
     shown-is = column shownIn emptyList past (λ u. u .shown) refl
 
-    draft-is : getD (t .draft) p past ≡ storeMaybe (x .draft)
+    on-is : getD (t .sets .on) p false ≡ x .state
+    unfolding storeSets onIn
+    on-is = column onIn false false (λ u. u .on) refl
+
+    draft-is : getD (t .sets .draft) p past ≡ storeMaybe (x .draft)
     unfolding storeSets draftIn
     draft-is = column draftIn emptyList past (λ u. u .draft) refl
 
@@ -189,57 +206,79 @@ module _ (bytes : List ℕ) (t₀ : Table) (t : Sets) (reply : Reply) (spots : S
         ap storeMaybe (held-shown x (eqb (g .la) 1) (actOf g))
         ∙ ap (λ (b : Bool). storeMaybe (cond b (x .draft) (x .shown))) (sym shows-is)
 
-    table-is : (shown : IdList) → shown ≡ storeMaybe (after .0 .shown) → setAt t p (eqb (f .la) 1) shown (r .draft) ≡ storeSets (set c j (after .0))
-    unfolding c j x after steppedAs
-    table-is shown e =
-        (λ k. setAt (G .stored k) (place k) ((la-is ∙ sym (held-state x (eqb (g .la) 1) (actOf g))) k) (e k) (result k .draft))
+    state-is : eqb (f .la) 1 ≡ after .0 .state
+    unfolding after
+    state-is = la-is ∙ sym (held-state x (eqb (g .la) 1) (actOf g))
+
+    stored-is : (shown : IdList) → shown ≡ storeMaybe (after .0 .shown) → setAt (t .sets) p (eqb (f .la) 1) shown (r .draft) ≡ storeSets (set c j (after .0))
+    unfolding j x after steppedAs
+    stored-is shown e =
+        (λ k. setAt (sets-are k) (place k) (state-is k) (e k) (result k .draft))
         ∙ sym (store-set c j (after .0) within (onHeld-key linkage x (eqb (g .la) 1) tt (actOf g)))
 
-    turn-with : (shown : IdList) → shown ≡ storeMaybe (after .0 .shown) → (reply' : Reply) → reply' ≡ replyWith reply i (r .note)
-        → Going bytes t₀ (setAt t p (eqb (f .la) 1) shown (r .draft)) reply' spots from at (i + 1)
-    unfolding c g j x after steppedAs
-    turn-with shown e reply' q =
-        going-next bytes t₀ t reply spots from at i G h _ reply' (after .1) (set c j (after .0))
-        (step-here c g (here b)) (table-is shown e) (q ∙ ap (λ (y : ListStep). replyWith reply i (y .note)) result)
+    after-meets : setsMeet (set c j (after .0)) ≡ true
+    unfolding c g j x after
+    after-meets = step-meets c (set c j (after .0)) (after .1) g (good-now bytes t₀ t reply spots from at i G h) (G .now-meets) (step-here c g (here b))
 
-    shown-or : (b : Bool) → cond b (getD (t .draft) p past) (getD (t .shown) p past) ≡ storeMaybe (cond b (x .draft) (x .shown))
+    -- the totals by what changes: the set that was shown, and the one that is
+    abbrev Exchanged : IdList → Totals → Type 0
+    Exchanged shown n = n ≡ exchangedSet (t .totals) (getD (t .sets .shown) p past .len) (getD (t .sets .on) p false) (shown .len) (eqb (f .la) 1)
+
+    counted-is : (shown : IdList) → shown ≡ storeMaybe (after .0 .shown) → (n : Totals) → Exchanged shown n → n ≡ sums (shownSets (set c j (after .0)))
+    unfolding c j x
+    counted-is shown e n q =
+        q ∙ (λ k. exchangedSet (totals-are k) (shown-is k .len) (on-is k) (e k .len) (state-is k))
+        ∙ sums-exchanged c (G .now-meets) j within (after .0) after-meets
+
+    turn-with : (shown : IdList) → shown ≡ storeMaybe (after .0 .shown) → (n : Totals) → Exchanged shown n → (reply' : Reply) → reply' ≡ replyWith reply i (r .note)
+        → Going bytes t₀ (tableOf (setAt (t .sets) p (eqb (f .la) 1) shown (r .draft)) n) reply' spots from at (i + 1)
+    unfolding c g j x after steppedAs totalsOf
+    turn-with shown e n v reply' q =
+        going-next bytes t₀ t reply spots from at i G h _ reply' (after .1) (set c j (after .0))
+        (step-here c g (here b)) (ap₂ tableOf (stored-is shown e) (counted-is shown e n v)) (q ∙ ap (λ (y : ListStep). replyWith reply i (y .note)) result)
+
+    shown-or : (b : Bool) → cond b (getD (t .sets .draft) p past) (getD (t .sets .shown) p past) ≡ storeMaybe (cond b (x .draft) (x .shown))
     shown-or true = draft-is
     shown-or false = shown-is
 
-    pub turn-held : (shown : IdList) → shown ≡ cond (r .shows) (getD (t .draft) p past) (getD (t .shown) p past) → (reply' : Reply) → reply' ≡ replyWith reply i (r .note)
-        → Going bytes t₀ (setAt t p (eqb (f .la) 1) shown (r .draft)) reply' spots from at (i + 1)
-    turn-held shown e reply' q = turn-with shown (e ∙ shown-or (r .shows) ∙ sym shown-then) reply' q
+    pub turn-held : (shown : IdList) → shown ≡ cond (r .shows) (getD (t .sets .draft) p past) (getD (t .sets .shown) p past) → (n : Totals) → Exchanged shown n
+        → (reply' : Reply) → reply' ≡ replyWith reply i (r .note)
+        → Going bytes t₀ (tableOf (setAt (t .sets) p (eqb (f .la) 1) shown (r .draft)) n) reply' spots from at (i + 1)
+    turn-held shown e n v reply' q = turn-with shown (e ∙ shown-or (r .shows) ∙ sym shown-then) n v reply' q
 
   -- ---- a key that is not held
 
-  module _ (b : (ltb p (t .count) && eqb (getD (t .keys) p 0) key) ≡ false) where
+  module _ (b : (ltb p (t .sets .count) && eqb (getD (t .sets .keys) p 0) key) ≡ false) where
     ascending : Ascends linkage (heldKeys linkage c)
     unfolding c
     ascending = table-meets c .0 (G .now-meets) .ascend
 
-    count-is : t .count ≡ length c
+    count-is : t .sets .count ≡ length c
     unfolding c
-    count-is = count-of t c (G .stored)
+    count-is = count-of (t .sets) c sets-are
 
     act-is : (a : Act linkage) (k : FieldOf → Act linkage) → actOf (meaning body f) ≡ k (meaning body f) → actOf g ≡ k g
     act-is a k e = subst (λ (y : FieldOf). actOf y ≡ k y) means e
 
     -- a start, and room
-    pub turn-new : opensIn f (t .count) ≡ true → ((n : ℕ) → getD bytes n 0 < 256) → (l : IdList) (w : Grown) → l ≡ emptyList → w ≡ withField l body f
-        → (t' : Sets) → t' ≡ openedSets t p key (eqb (f .la) 1) (w .list) → (reply' : Reply) → reply' ≡ replyWith reply i Opened
-        → Going bytes t₀ t' reply' spots from at (i + 1)
-    unfolding c g opensIn
+    pub turn-new : opensIn f (t .sets .count) ≡ true → ((n : ℕ) → getD bytes n 0 < 256) → (l : IdList) (w : Grown) → l ≡ emptyList → w ≡ withField l body f
+        → (t' : Sets) → t' ≡ openedSets (t .sets) p key (eqb (f .la) 1) (w .list) → (reply' : Reply) → reply' ≡ replyWith reply i Opened
+        → Going bytes t₀ (tableOf t' (t .totals)) reply' spots from at (i + 1)
+    unfolding c g opensIn fresh totalsOf
     turn-new open' b256 l w le we t' te reply' q =
         let has : hasListIn f ≡ true = and-left (hasListIn f) _ (and-left (hasListIn f && not (continues f)) _ open') in
         let starts : continues f ≡ false = not-true (continues f) (and-right (hasListIn f) _ (and-left (hasListIn f && not (continues f)) _ open')) in
-        let few : length c < mostKeys = subst (λ (n : ℕ). n < mostKeys) count-is (ltb-true (t .count) mostKeys (and-right (hasListIn f && not (continues f)) _ open')) in
+        let few : length c < mostKeys = subst (λ (n : ℕ). n < mostKeys) count-is (ltb-true (t .sets .count) mostKeys (and-right (hasListIn f && not (continues f)) _ open')) in
         let act : actOf g ≡ start (brings g) = act-is noList (λ y. start (brings y)) (act-start body f has starts) in
         let list' : w .list ≡ storeList (opening linkage (brings g)) =
         ap (λ (x : Grown). x .list) (we ∙ ap (λ (x : IdList). withField x body f) le ∙ with-none body f (inside b256) reserved)
         ∙ ap (λ (y : FieldOf). storeList (opening linkage (brings y))) means in
-        going-next bytes t₀ t reply spots from at i G h t' reply' Opened (insert linkage (fresh linkage (keyOf g) (eqb (g .la) 1) (brings g)) c)
+        let new = fresh linkage (keyOf g) (eqb (g .la) 1) (brings g) in
+        going-next bytes t₀ t reply spots from at i G h (tableOf t' (t .totals)) reply' Opened (insert linkage new c)
         (step-new c g ascending (nowhere b) act few)
-        (te ∙ (λ k. openedSets (G .stored k) p (key-is k) (la-is k) (list' k)) ∙ sym (store-new c (keyOf g) p (eqb (g .la) 1) (brings g) (nowhere b) place few))
+        (ap₂ tableOf
+        (te ∙ (λ k. openedSets (sets-are k) p (key-is k) (la-is k) (list' k)) ∙ sym (store-new c (keyOf g) p (eqb (g .la) 1) (brings g) (nowhere b) place few))
+        (totals-are ∙ sym (sums-opened c new refl (nowhere b))))
         q
       where
         inside : ((n : ℕ) → getD bytes n 0 < 256) → InBody body f
@@ -253,7 +292,7 @@ module _ (bytes : List ℕ) (t₀ : Table) (t : Sets) (reply : Reply) (spots : S
     unfolding c g
     same n e reply' q = going-next bytes t₀ t reply spots from at i G h t reply' n c e (G .stored) q
 
-    pub turn-same : opensIn f (t .count) ≡ false → (n : Note) → n ≡ unheldNote f → (reply' : Reply) → reply' ≡ replyWith reply i n → Going bytes t₀ t reply' spots from at (i + 1)
+    pub turn-same : opensIn f (t .sets .count) ≡ false → (n : Note) → n ≡ unheldNote f → (reply' : Reply) → reply' ≡ replyWith reply i n → Going bytes t₀ t reply' spots from at (i + 1)
     unfolding opensIn unheldNote
     turn-same shut' n ne reply' q =
         cases-bool (hasListIn f)
@@ -261,7 +300,7 @@ module _ (bytes : List ℕ) (t₀ : Table) (t : Sets) (reply : Reply) (spots : S
         (λ more. same UnknownKey (step-unknown-more c g ascending (nowhere b) (act-is noList (λ y. continuation (brings y)) (act-more body f has more))) reply'
         (q ∙ ap (replyWith reply i) (ne ∙ rw (has, more))))
         (λ starts.
-        let full : mostKeys ≤ length c = subst (λ (k : ℕ). mostKeys ≤ k) count-is (ltb-false (t .count) mostKeys (rw (has, starts) at shut')) in
+        let full : mostKeys ≤ length c = subst (λ (k : ℕ). mostKeys ≤ k) count-is (ltb-false (t .sets .count) mostKeys (rw (has, starts) at shut')) in
         same Full (step-full c g ascending (nowhere b) (act-is noList (λ y. start (brings y)) (act-start body f has starts)) full) reply'
         (q ∙ ap (replyWith reply i) (ne ∙ rw (has, starts)))))
         (λ has. same UnknownKey (step-unknown-none c g ascending (nowhere b) (act-is noList (λ y. noList) (act-none body f has))) reply'
@@ -278,7 +317,7 @@ pub record Fits' (bytes : List ℕ) (reply : Reply) (spots : Spots) (from i : �
   pub few : i < 14
   pub full : reply .full < length bytes
 
-module _ (bytes : List ℕ) (t₀ : Table) (t : Sets) (reply : Reply) (spots : Spots) (from at i : ℕ) (G : Going bytes t₀ t reply spots from at i) where
+module _ (bytes : List ℕ) (t₀ t : Table) (reply : Reply) (spots : Spots) (from at i : ℕ) (G : Going bytes t₀ t reply spots from at i) where
   pub fits-now : i < spots .count → Fits' bytes reply spots from i
   fits-now h =
       let s = spot-now bytes t₀ t reply spots from at i G h in
@@ -290,11 +329,11 @@ module _ (bytes : List ℕ) (t₀ : Table) (t : Sets) (reply : Reply) (spots : S
         full = few-full bytes t₀ t reply spots from at i G h;
       }
 
-  pub table-short : t .count ≤ mostKeys
-  table-short = omega (arith, count-of t (G .now' .sets) (G .stored), table-rules (G .now' .sets) .0 (G .now-meets) .short)
+  pub table-short : t .sets .count ≤ mostKeys
+  table-short = omega (arith, count-of (t .sets) (G .now' .sets) (ap (λ (u : Table). u .sets) (G .stored)), table-rules (G .now' .sets) .0 (G .now-meets) .short)
 
-  pub place-short : (p k : ℕ) → (ltb p (t .count) && eqb (getD (t .keys) p 0) k) ≡ true → p < mostKeys
-  place-short p k b = omega (arith, table-short, ltb-true p (t .count) (and-left (ltb p (t .count)) _ b))
+  pub place-short : (p k : ℕ) → (ltb p (t .sets .count) && eqb (getD (t .sets .keys) p 0) k) ≡ true → p < mostKeys
+  place-short p k b = omega (arith, table-short, ltb-true p (t .sets .count) (and-left (ltb p (t .sets .count)) _ b))
 
 -- an outcome that is done is 0
 done-is : (o : Outcome) → isDone o ≡ true → o ≡ Done
@@ -322,7 +361,7 @@ judged-few fib r (isRefused o q v d e z) = omega arith
 judged-few fib r (isNoBlock v d e z) = omega arith
 
 -- a turn at a block: taken, or refused with every open list dropped
-module _ (bytes : List ℕ) (t₀ : Table) (t : Sets) (reply : Reply) (spots : Spots) (from at i : ℕ) (G : Going bytes t₀ t reply spots from at i)
+module _ (bytes : List ℕ) (t₀ t : Table) (reply : Reply) (spots : Spots) (from at i : ℕ) (G : Going bytes t₀ t reply spots from at i)
     (h : spots .count ≤ i) (l : 32 ≤ length bytes - at) (b256 : (n : ℕ) → getD bytes n 0 < 256)
     (part : List ℕ) (part-is : part ≡ take 32 (drop at bytes)) (r : Judged) (reply' : Reply) (reply-is : reply' ≡ replyTo reply (r .outcome) (r .place)) where
   fib : List ℕ
@@ -337,10 +376,11 @@ module _ (bytes : List ℕ) (t₀ : Table) (t : Sets) (reply : Reply) (spots : S
   never-none v = subst (Refusal fib) (ap verdict (sym part-is) ∙ v) (full-refusal fib full)
 
   closed-table : (n : IdList) → n ≡ emptyList
-      → withDraft t (replicate mostKeys n) ≡ storeSets (dropOpen linkage (G .now' .sets))
+      → tableOf (withDraft (t .sets) (replicate mostKeys n)) (t .totals) ≡ storeTable (withSets (G .now') (dropOpen linkage (G .now' .sets)))
+  unfolding totalsOf
   closed-table n ne =
-      ap₂ (λ (u : Sets) (x : IdList). withDraft u (replicate mostKeys x)) (G .stored) ne
-      ∙ sym (store-closed (G .now' .sets) (table-rules (G .now' .sets) .0 (G .now-meets) .short))
+      ap₂ (λ (u : Table) (x : IdList). tableOf (withDraft (u .sets) (replicate mostKeys x)) (u .totals)) (G .stored) ne
+      ∙ ap₂ tableOf (sym (store-closed (G .now' .sets) (table-rules (G .now' .sets) .0 (G .now-meets) .short))) (ap sums (sym (shown-closed (G .now' .sets))))
 
   pub turn-taken : JudgedAs part (verdict part) r → isDone (r .outcome) ≡ true → Going bytes t₀ t reply' (r .spots) at (at + 32) 0
   turn-taken (isTaken fs v d e p) y =
@@ -350,7 +390,7 @@ module _ (bytes : List ℕ) (t₀ : Table) (t : Sets) (reply : Reply) (spots : S
   turn-taken (isNoBlock v d e z) y = absurd (never-none v)
 
   pub turn-refused : JudgedAs part (verdict part) r → isDone (r .outcome) ≡ false → (none'' : IdList) → none'' ≡ emptyList
-      → Going bytes t₀ (withDraft t (replicate mostKeys none'')) reply' (r .spots) at (at + 32) 0
+      → Going bytes t₀ (tableOf (withDraft (t .sets) (replicate mostKeys none'')) (t .totals)) reply' (r .spots) at (at + 32) 0
   unfolding isDone
   turn-refused (isTaken fs v d e p) y n ne = absurd (true≢false (sym (ap isDone d) ∙ y))
   turn-refused (isRefused q w v d e z) y n ne =

@@ -243,6 +243,7 @@ fn run_blocks(table: Table, bytes: &[u8]) -> Run
     let mut dn = [0u32; rows::PLACES];
     let mut dk = [0u8; rows::PLACES];
     let mut laid = table.sets;
+    let mut totals = table.totals;
     let lists = laid.shown;
     let mut shown = rows::scatter(lists, &mut sn, &mut sk);
     let lists = laid.draft;
@@ -277,6 +278,7 @@ fn run_blocks(table: Table, bytes: &[u8]) -> Run
                     f,
                 );
                 let note = held.note;
+                totals = totals.exchanged(shown.lens[p], on[p], held.shown.len, f.la == 1);
                 shown.lens[p] = held.shown.len;
                 shown.names[p] = held.shown.named;
                 shown.changed[p] = true;
@@ -305,7 +307,7 @@ fn run_blocks(table: Table, bytes: &[u8]) -> Run
                 let left = sets_of(laid, on, &sn, &sk, shown, &dn, &dk, draft);
                 return Run {
                     reply,
-                    table: Table::of(left),
+                    table: Table::of(left, totals),
                 };
             }
             from = at;

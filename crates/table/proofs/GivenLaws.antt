@@ -1,4 +1,4 @@
--- What a function that is given a table owes, by the answer of the table's own test; forgetting a key; copying a set out.
+-- The test of a table; what a function that is given a table owes, by the answer of that test; forgetting a key; copying a set out.
 use Prim.Native.Nat.{ℕ, _<_, _≤_}
 use native.Mathlib.Omega.{arith}
 use mathlib.Core.Path.{_≡_, sym, ap, ap₂, _∙_, subst}
@@ -23,30 +23,43 @@ use Rattle.sets.specs.Places.{placeIn}
 use Rattle.sets.proofs.Entries.{Here, noEntry, entry-at}
 use Rattle.sets.proofs.PlaceLaws.{place-at, store-forgets, Roomy, stored-short, stored-shown}
 use Rattle.sets.proofs.Contents.{store-injective}
+use Rattle.totals.specs.declared.Totals.{Totals}
+use Rattle.totals.specs.Totals.{totalsOf}
+use Rattle.totals.specs.Kept.{withoutSet, totalsIn, sameTotals}
+use Rattle.totals.proofs.Laws.{same-is, is-same, sums-forgotten, sums-stored}
 use Rattle.table.specs.declared.Table.{Table}
 use Rattle.table.specs.declared.Copied.{Copied}
 use Rattle.table.specs.Stored.{tableOf, storeTable, Stored, Given, stored, notStored}
 use Rattle.table.specs.Answers.{forgottenAs, copiedAs, copyStored}
 use Rattle.table.proofs.Copies.{copy-stored}
 
--- ---- the test of a table is that of its sets
-
-pub tested-sets : (t : Table) {b : Bool} → Tested b (SetsStored (t .sets)) → Tested b (Stored t)
-unfolding SetsStored Stored
-tested-sets t w =
-    record {
-      sound = λ e. let s = w .sound e in (justSets (s .0), s .1, ap tableOf (s .2));
-      complete = λ s. w .complete (s .0 .sets, s .1, ap (λ (u : Table). u .sets) (s .2));
-    }
+-- ---- the test of a table is that of its sets and that of its totals
 
 pub sets-stored : (t : Table) → Stored t → SetsStored (t .sets)
 unfolding SetsStored Stored
 sets-stored t s = (s .0 .sets, s .1, ap (λ (u : Table). u .sets) (s .2))
 
--- a stored table is made of its sets
-pub table-of : (t : Table) → Stored t → tableOf (t .sets) ≡ t
-unfolding Stored
-table-of t s = ap (λ (u : Table). tableOf (u .sets)) (s .2) ∙ sym (s .2)
+-- the totals of a stored table are those of its sets
+pub totals-stored : (t : Table) → Stored t → t .totals ≡ totalsIn (t .sets)
+unfolding Stored totalsOf
+totals-stored t s =
+    ap (λ (u : Table). u .totals) (s .2) ∙ sym (sums-stored (s .0 .sets) (s .1)) ∙ sym (ap (λ (u : Table). totalsIn (u .sets)) (s .2))
+
+-- and a table of which both hold is stored
+both-stored : (t : Table) → SetsStored (t .sets) → t .totals ≡ totalsIn (t .sets) → Stored t
+unfolding SetsStored Stored totalsOf
+both-stored t s n = (justSets (s .0), s .1, ap₂ tableOf (s .2) (n ∙ ap totalsIn (s .2) ∙ sums-stored (s .0) (s .1)))
+
+module _ (t : Table) {b : Bool} (w : Tested b (SetsStored (t .sets))) where
+  pub tested-wrong : b ≡ false → Tested false (Stored t)
+  tested-wrong f = record { sound = λ e. absurd (false≢true e); complete = λ s. sym f ∙ w .complete (sets-stored t s) }
+
+  pub tested-totals : b ≡ true → {r : Bool} → r ≡ sameTotals (t .totals) (totalsIn (t .sets)) → Tested r (Stored t)
+  tested-totals f q =
+      record {
+        sound = λ e. both-stored t (w .sound f) (same-is _ _ (sym q ∙ e));
+        complete = λ s. q ∙ is-same _ _ (totals-stored t s);
+      }
 
 pub given-wrong : {t : Table} {right : Content → Type 0} {otherwise : Type 0} {b : Bool} → Tested b (Stored t) → b ≡ false → otherwise → Given t right otherwise
 given-wrong w f o = notStored (λ s. false≢true (sym f ∙ w .complete s)) o
@@ -97,7 +110,7 @@ module _ (t : Table) (c : Content) (m : meets c ≡ true) (e : t ≡ storeTable 
     pub forgets-missing : record { outcome = NotHeld; table = t } ≡ forgottenAs k c
     unfolding forgottenAs forgetOutcome heldOr forgotten
     forgets-missing =
-        let l : t ≡ storeTable (forgotten k c) = e ∙ ap (λ (s : Entries). tableOf (storeSets s)) (sym (forget-not-here linkage lawful noEntry (c .sets) k (table-meets (c .sets) .0 m .ascend) n)) in
+        let l : t ≡ storeTable (forgotten k c) = e ∙ ap (λ (s : Entries). storeTable (justSets s)) (sym (forget-not-here linkage lawful noEntry (c .sets) k (table-meets (c .sets) .0 m .ascend) n)) in
         let o : NotHeld ≡ heldOr (find linkage k (c .sets)) Done = sym (ap (λ (f : Option Held). heldOr f Done) missing) in
         λ j. record { outcome = o j; table = l j }
 
@@ -106,14 +119,6 @@ module _ (t : Table) (c : Content) (m : meets c ≡ true) (e : t ≡ storeTable 
     copies-missing ns ks = sym (ap (λ (f : Option Held). copyHeld f ns ks) missing)
 
   module _ (k at : ℕ) (p : at ≡ placeIn (take (t .sets .count) (t .sets .keys)) k) (h : Here (c .sets) k) where
-    pub forgets-held : (left : Sets) → left ≡ shutSets (t .sets) at → (u : Table) → u ≡ tableOf left → record { outcome = Done; table = u } ≡ forgottenAs k c
-    unfolding forgottenAs forgetOutcome heldOr forgotten
-    forgets-held left q u r =
-        let l : u ≡ storeTable (forgotten k c) =
-        r ∙ ap tableOf (q ∙ store-forgets (t .sets) (c .sets) sets-are k at p (table-rules (c .sets) .0 m .short) h) in
-        let o : Done ≡ heldOr (find linkage k (c .sets)) Done = sym (ap (λ (f : Option Held). heldOr f Done) (find-here linkage lawful noEntry (c .sets) k h)) in
-        λ j. record { outcome = o j; table = l j }
-
     i : ℕ
     i = placeIn (map keyIn (c .sets)) k
 
@@ -135,6 +140,22 @@ module _ (t : Table) (c : Content) (m : meets c ≡ true) (e : t ≡ storeTable 
     on-is : getD (t .sets .on) at false ≡ held .state
     unfolding storeSets onIn held
     on-is = ap₂ (λ (u : Sets) (j : ℕ). getD (u .on) j false) sets-are place ∙ column-at onIn mostKeys false (c .sets) i false noEntry within
+
+    -- its set is taken out of the totals
+    totals-are : (n : Totals) → n ≡ withoutSet (t .totals) (getD (t .sets .shown) at past .len) (getD (t .sets .on) at false) → n ≡ totalsOf (forgotten k c)
+    unfolding forgotten totalsOf held i
+    totals-are n q =
+        q ∙ (λ j. withoutSet (e j .totals) (set-is j .len) (on-is j)) ∙ sums-forgotten (c .sets) m k h
+
+    pub forgets-held : (left : Sets) → left ≡ shutSets (t .sets) at
+        → (n : Totals) → n ≡ withoutSet (t .totals) (getD (t .sets .shown) at past .len) (getD (t .sets .on) at false)
+        → (u : Table) → u ≡ tableOf left n → record { outcome = Done; table = u } ≡ forgottenAs k c
+    unfolding forgottenAs forgetOutcome heldOr forgotten
+    forgets-held left q n v u r =
+        let l : u ≡ storeTable (forgotten k c) =
+        r ∙ ap₂ tableOf (q ∙ store-forgets (t .sets) (c .sets) sets-are k at p (table-rules (c .sets) .0 m .short) h) (totals-are n v) in
+        let o : Done ≡ heldOr (find linkage k (c .sets)) Done = sym (ap (λ (f : Option Held). heldOr f Done) (find-here linkage lawful noEntry (c .sets) k h)) in
+        λ j. record { outcome = o j; table = l j }
 
     key-is : held .key ≡ k
     unfolding held i

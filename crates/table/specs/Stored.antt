@@ -4,15 +4,17 @@ use mathlib.Core.Bool.{true}
 use Rattle.rules.specs.Collecting.{Content, meets}
 use Rattle.sets.specs.declared.Sets.{Sets}
 use Rattle.sets.specs.Stored.{storeSets}
+use Rattle.totals.specs.declared.Totals.{Totals}
+use Rattle.totals.specs.Totals.{totalsOf}
 use Rattle.table.specs.declared.Table.{Table}
 
--- a table with these sets and nothing else
-abbrev pub tableOf : Sets → Table
-tableOf s = record { sets = s }
+-- a table with these sets and totals and nothing else
+abbrev pub tableOf : Sets → Totals → Table
+tableOf s n = record { sets = s; totals = n }
 
--- a content: its sets
+-- a content: its sets, and the sums over those that it shows
 abbrev pub storeTable : Content → Table
-storeTable c = record { sets = storeSets (c .sets) }
+storeTable c = record { sets = storeSets (c .sets); totals = totalsOf c }
 
 -- a table is the stored form of a content that meets the rules
 unfoldable pub Stored : Table → Type 0

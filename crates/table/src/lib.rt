@@ -1,5 +1,5 @@
-// The table of linkage sets (document 01, Collecting): its limits, its empty table, the test of the table rules, forgetting a key
-// and copying a set out. Every function is proved and none that is `pub` has a `requires`. The stored form is storeTable of
+// The table of linkage sets (document 01, Collecting): its limits, its empty table, the test of the table rules, its totals
+// (document 02, R-7), forgetting a key and copying a set out. Every function is proved and none that is `pub` has a `requires`. The stored form is storeTable of
 // specs/Stored.antt; what a table may hold is `meets` of crate rules.
 
 ghost use mathlib.Core.Path.{_≡_};
@@ -9,15 +9,18 @@ ghost use Prim.Native.Nat.{_≤_};
 ghost use Rattle.rules.specs.Collecting.{nothing};
 ghost use Rattle.rules.specs.Outcomes.{copyOut, notCopied, overwritten};
 ghost use Rattle.lists.specs.Stored.{Tested};
+ghost use Rattle.totals.specs.Totals.{totalsOf, noTotals};
 ghost use Rattle.table.specs.Stored.{tableOf, storeTable, Stored, Given};
 ghost use Rattle.table.specs.Answers.{forgottenAs, copiedAs, copyStored};
 use lists::IdList;
 use rules::Outcome;
 use sets::Sets;
+use totals::Totals;
 
-// What a table holds: its sets.
+// What a table holds: its sets, and the totals of those that it shows.
 pub struct Table {
     pub sets: Sets,
+    pub totals: Totals,
 }
 
 impl Table {
@@ -26,18 +29,18 @@ impl Table {
     // The identifiers that a set holds at most.
     pub const IDENTIFIERS: usize = IdList::MOST;
 
-    // The table with these sets and nothing else.
-    pub fn of(sets: Sets) -> Self
-        ensures { λ r. ⌜ r ≡ tableOf sets ⌝ }
+    // The table with these sets and totals and nothing else.
+    pub fn of(sets: Sets, totals: Totals) -> Self
+        ensures { λ r. ⌜ r ≡ tableOf sets totals ⌝ }
     {
-        Self { sets }
+        Self { sets, totals }
     }
 
     // The table that holds nothing.
     pub fn empty() -> Self
         ensures { λ r. ⌜ r ≡ storeTable nothing ⌝ }
     {
-        Self::of(Sets::empty())
+        Self::of(Sets::empty(), Totals::none())
     }
 
     // Whether this is the stored form of a content that meets the table rules.
@@ -45,7 +48,38 @@ impl Table {
         ensures { λ r. ⌜ Tested r (Stored self) ⌝ }
     {
         let sets = self.sets;
-        sets.meets()
+        if !sets.meets() {
+            return false;
+        }
+        let totals = self.totals;
+        totals.are_of(sets)
+    }
+}
+
+// ---- the totals
+
+// What asking for the totals answers.
+pub struct Counted {
+    pub outcome: Outcome,
+    pub totals: Totals,
+}
+
+impl Table {
+    // The totals as they are stored, which are the sums over the shown sets; or 9.
+    pub fn totals(self) -> Counted
+        ensures { λ r. ⌜ Given self (λ c. r ≡ record { outcome = Outcome.Done; totals = totalsOf c }) (r ≡ record { outcome = Outcome.WrongTable; totals = noTotals }) ⌝ }
+    {
+        if !self.meets() {
+            return Counted {
+                outcome: Outcome::WrongTable,
+                totals: Totals::none(),
+            };
+        }
+        let totals = self.totals;
+        Counted {
+            outcome: Outcome::Done,
+            totals,
+        }
     }
 }
 
@@ -77,9 +111,12 @@ pub fn forget_key(table: Table, key: u32) -> Forgotten
         };
     }
     let left = sets.shut_at(at);
+    let gone = sets.shown[at];
+    let totals = table.totals;
+    let rest = totals.without(gone.len, sets.on[at]);
     Forgotten {
         outcome: Outcome::Done,
-        table: Table::of(left),
+        table: Table::of(left, rest),
     }
 }
 

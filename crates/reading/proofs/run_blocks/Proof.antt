@@ -9,6 +9,7 @@ use Rattle.block.specs.declared.Spot.{Spot}
 use Rattle.block.specs.Judged.{noSpot}
 use Rattle.block.proofs.Meaning.{bodyAt, says}
 use borrow.Author.Tests.{not-true, not-false}
+use Rattle.sets.specs.declared.Sets.{Sets}
 use Rattle.table.specs.Stored.{tableOf}
 use Rattle.reading.specs.Gathered.{setsOf}
 use Rattle.reading.proofs.GatheredLaws.{row-size, part-long}
@@ -39,18 +40,18 @@ use Rattle.reading.proofs.unheld_note.Reads as unheld-note-reads
 use Rattle.sets.proofs.place_of.Reads as place-of-reads
 
 abbrev Inv-loop : tie.InvT-loop
-Inv-loop bytes sn₀ sk₀ dn₀ dk₀ laid₀ shown₀ draft₀ on₀ closed reply₀ spots₀ from₀ at₀ i₀ sn sk dn dk laid shown draft on reply spots from at i =
-    Kept bytes (tableOf (setsOf laid₀ on₀ sn₀ sk₀ shown₀ dn₀ dk₀ draft₀)) laid on sn sk shown dn dk draft reply spots from at i
+Inv-loop bytes sn₀ sk₀ dn₀ dk₀ laid₀ totals₀ shown₀ draft₀ on₀ closed reply₀ spots₀ from₀ at₀ i₀ sn sk dn dk laid totals shown draft on reply spots from at i =
+    Kept bytes (tableOf (setsOf laid₀ on₀ sn₀ sk₀ shown₀ dn₀ dk₀ draft₀) totals₀) laid totals on sn sk shown dn dk draft reply spots from at i
 
 abbrev μ-loop : tie.MeasureT-loop
-μ-loop bytes sn₀ sk₀ dn₀ dk₀ laid₀ shown₀ draft₀ on₀ closed reply₀ spots₀ from₀ at₀ i₀ sn sk dn dk laid shown draft on reply spots from at i =
+μ-loop bytes sn₀ sk₀ dn₀ dk₀ laid₀ totals₀ shown₀ draft₀ on₀ closed reply₀ spots₀ from₀ at₀ i₀ sn sk dn dk laid totals shown draft on reply spots from at i =
     (length bytes - at) + (spots .count - i)
 
 -- ---- contexts: what was known earlier on, from where the loop begins and from where a field's place is known
 
 -- the function's start
 abbrev start : (c : tie.At-loop Inv-loop μ-loop) → tie.Start Inv-loop μ-loop
-start c = c .before .before .before .before .before .before .before .before .before .before .before .before .before .before .before .before .before .before .before
+start c = c .before .before .before .before .before .before .before .before .before .before .before .before .before .before .before .before .before .before .before .before
 
 -- the turn at a field; its field read, its key, its place
 abbrev turn : (c : tie.After-stands-at Inv-loop μ-loop) → tie.Then1 Inv-loop μ-loop
@@ -101,14 +102,14 @@ bytes-fit : (c : tie.Start Inv-loop μ-loop) → length (c .args .bytes .now) < 
 bytes-fit c = search needs
 
 bytes-of : (c : tie.At-loop Inv-loop μ-loop) → (n : ℕ) → getD (start c .args .bytes .now) n 0 < 256
-bytes-of c n = c .before .before .before .before .before .before .before .before .before .before .before .before .before .before .before .before .before .before .shared-slice-known .given n .fits
+bytes-of c n = c .before .before .before .before .before .before .before .before .before .before .before .before .before .before .before .before .before .before .before .shared-slice-known .given n .fits
 
 next-fits : (i : ℕ) → i < 14 → i + 1 < 2 ^ 64
 next-fits i h = omega arith
 
 -- what is laid out at first: the given table
 abbrev laid-out : (c : tie.After-no-spots Inv-loop μ-loop) → tie.Start Inv-loop μ-loop
-laid-out c = c .before .before .before .before .before .before .before .before .before .before .before .before .before .before .before .before .before .before
+laid-out c = c .before .before .before .before .before .before .before .before .before .before .before .before .before .before .before .before .before .before .before
 
 abbrev sets-out : (c : tie.After-no-spots Inv-loop μ-loop) → tie.After-scatter Inv-loop μ-loop
 sets-out c = c .before .before .before .before .before .before .before .before .before .before .before .before
@@ -117,7 +118,7 @@ abbrev lists-out : (c : tie.After-no-spots Inv-loop μ-loop) → tie.After-scatt
 lists-out c = c .before .before .before .before .before .before
 
 laid-first : (c : tie.After-no-spots Inv-loop μ-loop)
-    → tableOf (setsOf (laid-out c .args .table .sets) (laid-out c .args .table .sets .on) (sets-out c .scatter .last .1 .0) (sets-out c .scatter .last .1 .1 .0) (sets-out c .scatter .result) (lists-out c .scatter2 .last .1 .0) (lists-out c .scatter2 .last .1 .1 .0) (lists-out c .scatter2 .result)) ≡ laid-out c .args .table
+    → tableOf (setsOf (laid-out c .args .table .sets) (laid-out c .args .table .sets .on) (sets-out c .scatter .last .1 .0) (sets-out c .scatter .last .1 .1 .0) (sets-out c .scatter .result) (lists-out c .scatter2 .last .1 .0) (lists-out c .scatter2 .last .1 .1 .0) (lists-out c .scatter2 .result)) (laid-out c .args .table .totals) ≡ laid-out c .args .table
 laid-first c = first-table (laid-out c .args .bytes .now) _ (laid-out c .pre) _ _ _ _ _ _ (sets-out c .scatter .ensures) (lists-out c .scatter2 .ensures)
 
 -- the present field stands within its block
@@ -298,45 +299,57 @@ on-held-requires c κs =
       draft-short K (placed s .place-of .result) w _ (c .before .row-at2 .ensures),
     )
 
+mul-exchanged : tie.Need-mul-exchanged Inv-loop μ-loop
+mul-exchanged c = let w = held-place (stepped c) in omega arith
+
+element-copy-out-exchanged : tie.Need-element-copy-out-exchanged Inv-loop μ-loop
+element-copy-out-exchanged c = let w = held-place (stepped c) in omega arith
+
+array-read-exchanged : tie.Need-array-read-exchanged Inv-loop μ-loop
+array-read-exchanged c = let w = held-place (stepped (c .before)) in omega arith
+
+exchanged-requires : tie.Need-exchanged-requires Inv-loop μ-loop
+exchanged-requires c κs = search needs
+
 mul-shown : tie.Need-mul-shown Inv-loop μ-loop
-mul-shown c = let w = held-place (stepped c) in omega arith
+mul-shown c = let w = held-place (stepped (c .before .before .before)) in omega arith
 
 element-write-shown : tie.Need-element-write-shown Inv-loop μ-loop
-element-write-shown c = let w = held-place (stepped c) in omega arith
+element-write-shown c = let w = held-place (stepped (c .before .before .before)) in omega arith
 
 element-write-shown-2 : tie.Need-element-write-shown-2 Inv-loop μ-loop
-element-write-shown-2 c = let w = held-place (stepped c) in omega arith
+element-write-shown-2 c = let w = held-place (stepped (c .before .before .before)) in omega arith
 
 element-write-shown-3 : tie.Need-element-write-shown-3 Inv-loop μ-loop
-element-write-shown-3 c = let w = held-place (stepped c) in omega arith
+element-write-shown-3 c = let w = held-place (stepped (c .before .before .before)) in omega arith
 
 mul-draft : tie.Need-mul-draft Inv-loop μ-loop
-mul-draft c = let w = held-place (stepped c) in omega arith
+mul-draft c = let w = held-place (stepped (c .before .before .before)) in omega arith
 
 element-write-draft : tie.Need-element-write-draft Inv-loop μ-loop
-element-write-draft c = let w = held-place (stepped c) in omega arith
+element-write-draft c = let w = held-place (stepped (c .before .before .before)) in omega arith
 
 element-write-draft-2 : tie.Need-element-write-draft-2 Inv-loop μ-loop
-element-write-draft-2 c = let w = held-place (stepped c) in omega arith
+element-write-draft-2 c = let w = held-place (stepped (c .before .before .before)) in omega arith
 
 element-write-draft-3 : tie.Need-element-write-draft-3 Inv-loop μ-loop
-element-write-draft-3 c = let w = held-place (stepped c) in omega arith
+element-write-draft-3 c = let w = held-place (stepped (c .before .before .before)) in omega arith
 
 array-write-on : tie.Need-array-write-on Inv-loop μ-loop
-array-write-on c = let w = held-place (stepped (c .before)) in omega arith
+array-write-on c = let w = held-place (stepped (c .before .before .before .before)) in omega arith
 
 noted-requires : tie.Need-noted-requires Inv-loop μ-loop
-noted-requires c κs = noted-fits (turn (stepped (c .before) .before))
+noted-requires c κs = noted-fits (turn (stepped (c .before .before .before .before) .before))
 
 add-i : tie.Need-add-i Inv-loop μ-loop
-add-i c = record { fits = next-fits _ (fits (turn (stepped (c .before .before) .before)) .few) }
+add-i c = record { fits = next-fits _ (fits (turn (stepped (c .before .before .before .before .before) .before)) .few) }
 
 loop-less : tie.Need-loop-less Inv-loop μ-loop
-loop-less c = let w = turn (stepped (c .before .before) .before) .if1 .taken in omega arith
+loop-less c = let w = turn (stepped (c .before .before .before .before .before) .before) .if1 .taken in omega arith
 
 loop-again : tie.Need-loop-again Inv-loop μ-loop
 loop-again c =
-    let rows = c .before .before in
+    let rows = c .before .before .before .before .before in
     let after = rows .before .before .before .before in
     let y = after .on-held .last in
     let h = stepped rows in
@@ -347,7 +360,8 @@ loop-again c =
     kept-held K (turn s .if1 .taken) _ (body-is (turn s)) _ (read s .field .ensures) _ (keyed s .key .ensures) _ (placed s .place-of .ensures) _ (sym (s .stands-at .ensures) ∙ h .if2 .taken) w _ (row-size p) _ _
     (set-row (both-rows rows) .row-at .ensures) (both-rows rows .row-at2 .ensures) (after .on-held .result) (y .0) (y .1 .0) (y .1 .1 .1 .0) (y .1 .1 .1 .1 .0) (after .on-held .ensures)
     (rows .before .before .before .sn4 .given ∙ part-long _ _ (row-size p) w _ (K .shown .numbers)) (rows .before .before .sk4 .given ∙ part-long _ _ (row-size p) w _ (K .shown .kinds))
-    (rows .before .dn4 .given ∙ part-long _ _ (row-size p) w _ (K .draft .numbers)) (rows .dk4 .given ∙ part-long _ _ (row-size p) w _ (K .draft .kinds)) (c .noted .ensures)
+    (rows .before .dn4 .given ∙ part-long _ _ (row-size p) w _ (K .draft .numbers)) (rows .dk4 .given ∙ part-long _ _ (row-size p) w _ (K .draft .kinds))
+    _ (c .before .before .exchanged .ensures) (c .noted .ensures)
 
 opens-requires : tie.Need-opens-requires Inv-loop μ-loop
 opens-requires c κs = search needs
@@ -463,7 +477,7 @@ returns : tie.Need-returns Inv-loop μ-loop
 returns c =
     let b = c .before .before .before .before .before .before in
     let l = b .before .before in
-    kept-end (l .loop .inv) (b .before .if1 .left) (b .if4 .taken) (start l .args .table) (laid-first (l .before)) (c .of .result) (c .of .ensures ∙ ap tableOf (c .before .sets-of2 .ensures))
+    kept-end (l .loop .inv) (b .before .if1 .left) (b .if4 .taken) (start l .args .table) (laid-first (l .before)) (c .of .result) (c .of .ensures ∙ ap (λ (x : Sets). tableOf x (l .loop .totals)) (c .before .sets-of2 .ensures))
 
 add-at : tie.Need-add-at Inv-loop μ-loop
 add-at c = let y = c .if4 .left in omega (arith, bytes-fit (start (c .before .before)))
@@ -557,6 +571,10 @@ run-blocks-spec =
     part-on-held-start
     part-on-held-end
     on-held-requires
+    mul-exchanged
+    element-copy-out-exchanged
+    array-read-exchanged
+    exchanged-requires
     mul-shown
     element-write-shown
     element-write-shown-2

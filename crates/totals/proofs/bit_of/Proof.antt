@@ -1,0 +1,16 @@
+-- `totals::bit_of` meets its contract.
+use mathlib.Core.Path.{sym, ap}
+use Rattle.rules.specs.Block.{bit}
+use Rattle.totals.proofs.bit_of.Statement.{statement}
+use Rattle.totals.proofs.bit_of.Tie as tie
+
+returns : tie.Need-returns
+unfolding bit
+returns c = sym (ap bit (c .if1 .taken))
+
+returns-2 : tie.Need-returns-2
+unfolding bit
+returns-2 c = sym (ap bit (c .if1 .left))
+
+pub bit-of-spec : {M : Type 1} → statement M
+bit-of-spec = tie.close (tie.spec returns returns-2)
