@@ -144,6 +144,23 @@ pub(crate) fn put_table(out: &mut [u8], table: Table) -> usize {
     put_entries(out, q, sets)
 }
 
+// The three totals, or the table's outcome 9.
+pub(crate) fn put_totals(out: &mut [u8], table: Table) -> usize {
+    let counted = table.totals();
+    let outcome = counted.outcome;
+    let totals = counted.totals;
+    let p = put_bytes(out, 0, b"totals");
+    let number = outcome_number(outcome);
+    if number != 0 {
+        let q = put_number(out, p, number);
+        return put(out, q, 10);
+    }
+    let q = put_number(out, p, totals.shown);
+    let r = put_number(out, q, totals.on);
+    let s = put_number(out, r, totals.identifiers);
+    put(out, s, 10)
+}
+
 // A byte in hexadecimal.
 fn put_byte(out: &mut [u8], at: usize, byte: u8) -> usize {
     put_hex(out, at, 2, byte as u32)

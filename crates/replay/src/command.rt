@@ -6,6 +6,7 @@ use crate::answer::is_kept_u32;
 use crate::answer::put_head;
 use crate::line::bytes_at;
 use crate::line::count_at;
+use crate::line::is_word;
 use crate::line::key_at;
 use crate::line::letter_of;
 use crate::line::place_of;
@@ -212,8 +213,8 @@ fn answer_load(table: Table, line: &[u8], len: usize, out: &mut [u8]) -> Step {
 
 // `x N` spoils the table.
 fn answer_spoil(table: Table, line: &[u8], len: usize, out: &mut [u8]) -> Step {
-    let way = count_at(line, 2, len, 16);
-    if !way.good || way.value == 0 {
+    let way = count_at(line, 2, len, 24);
+    if !way.good || !spoil::is_way(way.value) {
         return unknown(table, out);
     }
     let spoilt = spoil::spoil(table, way.value);
@@ -269,6 +270,18 @@ fn answer_letter(table: Table, letter: u8, line: &[u8], out: &mut [u8]) -> Step 
     }
 }
 
+// The commands that are a word of more than a letter.
+fn answer_word(table: Table, line: &[u8], len: usize, out: &mut [u8]) -> Step {
+    if is_word(line, len, b"totals") {
+        return Step {
+            table,
+            next: Next::Go,
+            size: answer::put_totals(out, table),
+        };
+    }
+    unknown(table, out)
+}
+
 // The answer to a line of this length: nothing to an empty one, and too long above 65,536.
 pub(crate) fn answer_line(table: Table, line: &[u8], len: usize, out: &mut [u8]) -> Step {
     if len == 0 {
@@ -282,6 +295,9 @@ pub(crate) fn answer_line(table: Table, line: &[u8], len: usize, out: &mut [u8])
         return unknown(table, out);
     }
     let letter = letter_of(line, len);
+    if letter == 0 {
+        return answer_word(table, line, len, out);
+    }
     if len == 1 {
         answer_letter(table, letter, line, out)
     } else {

@@ -1,6 +1,8 @@
 // The pieces of a script's line: where a word ends, and what its digits say. Every function takes any
 // place of any line; what lies past the line's end counts as not there.
+use check::same;
 use lists::least;
+use out::front;
 ghost use Prim.Native.Nat.{_≤_};
 ghost use mathlib.Core.Path.{_≡_};
 ghost use lib.ListN.{length};
@@ -18,6 +20,11 @@ pub(crate) fn place_of(line: &[u8], from: usize, to: usize, byte: u8) -> usize
         i += 1;
     }
     i
+}
+
+// Whether a line of this length is this word and nothing else.
+pub(crate) fn is_word(line: &[u8], len: usize, word: &[u8]) -> bool {
+    same(front(line, len), word)
 }
 
 // The letter that a line of this length begins with, with nothing or a blank after it; 0 where there is

@@ -1,8 +1,9 @@
-// The sixteen ways to spoil a table, for testing outcome 9. Each is an assignment on the stored form, on
-// the first place that has what the way needs.
+// The ways to spoil a table, for testing outcome 9. Each is an assignment on the stored form, on the
+// first place that has what the way needs: 1 to 16 on the sets, 22 to 24 on the totals.
 use lists::IdList;
 use sets::Sets;
 use table::Table;
+use totals::Totals;
 ghost use Prim.Native.Nat.{_<_};
 
 // Whether the table had what the way needs, and the table with the assignment made.
@@ -15,6 +16,14 @@ pub struct Spoilt {
 struct SpoiltSets {
     done: bool,
     sets: Sets,
+}
+
+// Whether a number is that of a way.
+pub(crate) fn is_way(number: usize) -> bool {
+    if number < 17 {
+        return number != 0;
+    }
+    22 <= number && number <= 24
 }
 
 // Ways 1 to 6 need only enough entries.
@@ -237,8 +246,40 @@ fn spoil_sets(sets: Sets, way: usize) -> SpoiltSets {
     }
 }
 
-// A table spoiled in one of the ways 1 to 16.
+// A figure, one higher where that is asked; the largest number stays.
+fn raised(figure: usize, asked: bool) -> usize {
+    if !asked {
+        return figure;
+    }
+    if figure < usize::MAX {
+        figure + 1
+    } else {
+        figure
+    }
+}
+
+// Totals spoiled in one of the ways 22 to 24: the first, the second, the third figure is one higher. They
+// need nothing.
+fn spoil_totals(totals: Totals, way: usize) -> Totals {
+    Totals {
+        shown: raised(totals.shown, way == 22),
+        on: raised(totals.on, way == 23),
+        identifiers: raised(totals.identifiers, way == 24),
+    }
+}
+
+// A table spoiled in one of the ways.
 pub(crate) fn spoil(table: Table, way: usize) -> Spoilt {
+    if 22 <= way {
+        let totals = table.totals;
+        let wrong = spoil_totals(totals, way);
+        let mut next = table;
+        next.totals = wrong;
+        return Spoilt {
+            done: true,
+            table: next,
+        };
+    }
     let sets = table.sets;
     let spoilt = spoil_sets(sets, way);
     let left = spoilt.sets;

@@ -1,6 +1,6 @@
 -- Loading as the code does it: the count, the sets and that nothing is left over make the parser's answer, which is what loading answers.
 use Prim.Native.Nat.{ℕ, _≤_}
-use mathlib.Core.Path.{_≡_, refl, sym, ap, _∙_, subst}
+use mathlib.Core.Path.{_≡_, refl, sym, ap, ap₂, _∙_, subst}
 use mathlib.Core.Bool.{true, false}
 use mathlib.Core.List.{List, []}
 use mathlib.Core.Option.{Option, none, some}
@@ -10,10 +10,14 @@ use borrow.Author.Tests.{leb-true, eq-eqb, ne-eqb}
 use Rattle.rules.specs.declared.Outcome.the-variants.{Done}
 use Rattle.rules.specs.Collecting.{Entries, Content, nothing, justSets, mostKeys}
 use Rattle.rules.proofs.Basics.{true-false}
+use Rattle.rules.proofs.TableRules.{table-rules}
 use Rattle.layout.proofs.Standing.{Bytes}
 use Rattle.layout.specs.Parse.{Read, readIf, readSets, parseSheet}
-use Rattle.layout.proofs.ParseLaws.{then-go, then-none, parsedOutcome, parsedLeft, parse-loads}
+use Rattle.layout.proofs.ParseLaws.{then-go, then-none, sheet-read, parsedOutcome, parsedLeft, parse-loads}
 use Rattle.sets.specs.Stored.{storeSets}
+use Rattle.totals.specs.Totals.{totalsOf}
+use Rattle.totals.specs.Kept.{keptUp}
+use Rattle.totals.proofs.Laws.{kept-sums}
 use Rattle.table.specs.declared.Table.{Table}
 use Rattle.table.specs.Stored.{tableOf, storeTable}
 use Rattle.sheet.specs.declared.ReadNumber.the-variants as number
@@ -45,6 +49,7 @@ record AreSets (o : Option (Read Entries)) (r : ReadSets) : Type 0 where
   value : Entries
   there : o ≡ some (record { value = value; next = r .next })
   sets-are : r .sets ≡ storeSets value
+  totals-are : r .totals ≡ keptUp value
 
 sets-some : (o : Option (Read Entries)) (r : ReadSets) → r ≡ setsAs o → r .ok ≡ true → AreSets o r
 unfolding setsAs noSets
@@ -54,6 +59,7 @@ sets-some (some x) r e t =
       value = x .value;
       there = λ i. some (record { value = x .value; next = sym e i .next });
       sets-are = ap (λ (y : ReadSets). y .sets) e;
+      totals-are = ap (λ (y : ReadSets). y .totals) e;
     }
 
 module _ (bytes : List ℕ) (byte : Bytes bytes) where
@@ -77,9 +83,12 @@ module _ (bytes : List ℕ) (byte : Bytes bytes) where
           let m = sets-some _ s l t in
           loads-by bytes byte none r (then-go _ _ (number-some _ count place n) ∙ then-go _ _ (m .there) ∙ rw (ne-eqb (s .next) (length bytes) d)) e
 
-      pub load-made : s .ok ≡ true → s .next ≡ length bytes → (u : Table) → u ≡ tableOf (s .sets) → Loads bytes (record { outcome = Done; table = u })
-      unfolding parseSheet loadedAs
+      pub load-made : s .ok ≡ true → s .next ≡ length bytes → (u : Table) → u ≡ tableOf (s .sets) (s .totals) → Loads bytes (record { outcome = Done; table = u })
+      unfolding parseSheet loadedAs totalsOf
       load-made t d u q =
           let m = sets-some _ s l t in
-          loads-by bytes byte (some (justSets (m .value))) _ (then-go _ _ (number-some _ count place n) ∙ then-go _ _ (m .there) ∙ rw (eq-eqb (s .next) (length bytes) d))
-          (λ i. record { outcome = Done; table = (q ∙ ap tableOf (m .sets-are)) i })
+          let parsed : parseSheet bytes ≡ some (justSets (m .value)) =
+          then-go _ _ (number-some _ count place n) ∙ then-go _ _ (m .there) ∙ rw (eq-eqb (s .next) (length bytes) d) in
+          let r = table-rules (m .value) .0 (sheet-read bytes _ byte parsed .rules) in
+          loads-by bytes byte (some (justSets (m .value))) _ parsed
+          (λ i. record { outcome = Done; table = (q ∙ ap₂ tableOf (m .sets-are) (m .totals-are ∙ kept-sums (m .value) (r .entries) (r .short))) i })

@@ -18,6 +18,10 @@ use Rattle.rules.proofs.Arrays.{padded-default, set-column}
 use Rattle.lists.specs.declared.IdList.{IdList}
 use Rattle.lists.specs.Stored.{emptyList, storeList, storeMaybe}
 use Rattle.sets.specs.Stored.{storeSets, keyIn, onIn, shownIn, draftIn}
+use Rattle.totals.specs.declared.Totals.{Totals}
+use Rattle.totals.specs.Totals.{noTotals}
+use Rattle.totals.specs.Kept.{withSet, keptUp}
+use Rattle.totals.proofs.Laws.{kept-more}
 use Rattle.sheet.specs.declared.SetHead.{SetHead}
 use Rattle.sheet.specs.declared.ReadHead.the-variants as head
 use Rattle.sheet.specs.declared.ReadList.{ReadList}
@@ -120,19 +124,21 @@ set-some (some x) r e t =
     }
 
 -- i of them stand in the arrays, and what is still to be read is what was to be read
-pub record Filled (count : ℕ) (bytes : List ℕ) (at : ℕ) (draft : List IdList) (keys : List ℕ) (on : List Bool) (shown : List IdList) (last place i : ℕ) : Type 0 where
+pub record Filled (count : ℕ) (bytes : List ℕ) (at : ℕ) (draft : List IdList) (keys : List ℕ) (on : List Bool) (shown : List IdList) (totals : Totals) (last place i : ℕ) : Type 0 where
   pub read : Entries
   pub many : length read ≡ i
   pub keys-are : keys ≡ padded mostKeys 0 (map keyIn read)
   pub on-are : on ≡ padded mostKeys false (map onIn read)
   pub shown-are : shown ≡ padded mostKeys emptyList (map shownIn read)
   pub draft-are : draft ≡ padded mostKeys emptyList (map draftIn read)
+  pub totals-are : totals ≡ keptUp read
   pub rest : readSets (count - i) last read bytes place ≡ readSets count 0 [] bytes at
 
 module _ (count : ℕ) (bytes : List ℕ) (at : ℕ) where
-  pub sets-start : (l : IdList) → l ≡ emptyList
-      → Filled count bytes at (padded mostKeys l []) (padded mostKeys 0 []) (padded mostKeys false []) (padded mostKeys l []) 0 at 0
-  sets-start l e =
+  pub sets-start : (l : IdList) → l ≡ emptyList → (n : Totals) → n ≡ noTotals
+      → Filled count bytes at (padded mostKeys l []) (padded mostKeys 0 []) (padded mostKeys false []) (padded mostKeys l []) n 0 at 0
+  unfolding keptUp
+  sets-start l e n ne =
       let z : count - 0 ≡ count = omega arith in
       record {
         read = [];
@@ -141,20 +147,22 @@ module _ (count : ℕ) (bytes : List ℕ) (at : ℕ) where
         on-are = refl;
         shown-are = ap (λ (x : IdList). padded mostKeys x []) e;
         draft-are = ap (λ (x : IdList). padded mostKeys x []) e;
+        totals-are = ne;
         rest = ap (λ (n : ℕ). readSets n 0 [] bytes at) z;
       }
 
-  module _ (draft : List IdList) (keys : List ℕ) (on : List Bool) (shown : List IdList) (last place i : ℕ)
-      (g : Filled count bytes at draft keys on shown last place i) where
+  module _ (draft : List IdList) (keys : List ℕ) (on : List Bool) (shown : List IdList) (totals : Totals) (last place i : ℕ)
+      (g : Filled count bytes at draft keys on shown totals last place i) where
     pub sets-wrong : (r : ReadSet) → i < count → r ≡ setAs (readSet last bytes place) → r .ok ≡ false → noSets ≡ setsAs (readSets count 0 [] bytes at)
     unfolding setsAs
     sets-wrong r h e f =
         ap setsAs (sym (then-none _ (set-none _ r e f)) ∙ sym (sets-turn count i last (g .read) bytes place h) ∙ g .rest)
 
     pub sets-next : (r : ReadSet) → i < count → count ≤ mostKeys → r ≡ setAs (readSet last bytes place) → r .ok ≡ true
-        → Filled count bytes at draft (set keys i (r .key)) (set on i (r .on)) (set shown i (r .list)) (r .key) (r .next) (i + 1)
+        → (n : Totals) → n ≡ withSet totals (r .list .len) (r .on)
+        → Filled count bytes at draft (set keys i (r .key)) (set on i (r .on)) (set shown i (r .list)) n (r .key) (r .next) (i + 1)
     unfolding onIn shownIn draftIn storeMaybe alone
-    sets-next r h few e t =
+    sets-next r h few e t n ne =
         let m = set-some _ r e t in
         let s = m .value in
         record {
@@ -167,13 +175,14 @@ module _ (count : ℕ) (bytes : List ℕ) (at : ℕ) where
               g .draft-are
               ∙ sym (padded-default mostKeys emptyList (map draftIn (g .read)) (omega (arith, length-map (g .read) draftIn, g .many)))
               ∙ ap (padded mostKeys emptyList) (sym (map-append draftIn (g .read) (alone s ∷ [])));
+          totals-are = ne ∙ (λ j. withSet (g .totals-are j) (m .list-is j .len) (m .on-is j)) ∙ sym (kept-more (g .read) (alone s));
           rest =
               ap (λ (k : ℕ). readSets (count - (i + 1)) k (g .read ++ alone s ∷ []) bytes (r .next)) (m .key-is)
               ∙ sym (then-go _ _ (m .there)) ∙ sym (sets-turn count i last (g .read) bytes place h) ∙ g .rest;
         }
 
     pub sets-made : i ≤ count → count ≤ i
-        → _≡_ {A = ReadSets} (record { ok = true; sets = record { count = count; keys = keys; on = on; shown = shown; draft = draft }; next = place })
+        → _≡_ {A = ReadSets} (record { ok = true; sets = record { count = count; keys = keys; on = on; shown = shown; draft = draft }; totals = totals; next = place })
         (setsAs (readSets count 0 [] bytes at))
     unfolding setsAs storeSets
     sets-made a b =
@@ -182,6 +191,7 @@ module _ (count : ℕ) (bytes : List ℕ) (at : ℕ) where
         record {
           ok = true;
           sets = record { count = l j; keys = g .keys-are j; on = g .on-are j; shown = g .shown-are j; draft = g .draft-are j };
+          totals = g .totals-are j;
           next = place;
         })
         ∙ ap setsAs (sym (sets-end count i last (g .read) bytes place b) ∙ g .rest)

@@ -8,6 +8,8 @@ use Rattle.rules.specs.Collecting.{Entries, Shown}
 use Rattle.layout.specs.Parse.{Read, Head}
 use Rattle.lists.specs.Stored.{emptyList, storeList}
 use Rattle.sets.specs.Stored.{storeSets}
+use Rattle.totals.specs.Totals.{noTotals}
+use Rattle.totals.specs.Kept.{keptUp}
 use Rattle.sheet.specs.declared.ReadNumber.{ReadNumber}
 use Rattle.sheet.specs.declared.ReadNumber.the-variants as number
 use Rattle.sheet.specs.declared.SetHead.{SetHead}
@@ -58,9 +60,9 @@ setAs (some r) = record { ok = true; key = r .value .key; on = r .value .on; lis
 
 -- no sets
 unfoldable pub noSets : ReadSets
-noSets = record { ok = false; sets = storeSets []; next = 0 }
+noSets = record { ok = false; sets = storeSets []; totals = noTotals; next = 0 }
 
--- sets, as they are stored
+-- sets, as they are stored, and their totals, one set after another
 unfoldable pub setsAs : Option (Read Entries) → ReadSets
 setsAs none = noSets
-setsAs (some r) = record { ok = true; sets = storeSets (r .value); next = r .next }
+setsAs (some r) = record { ok = true; sets = storeSets (r .value); totals = keptUp (r .value); next = r .next }

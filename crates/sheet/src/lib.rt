@@ -25,6 +25,7 @@ use out::put;
 use rules::Outcome;
 use sets::Sets;
 use table::Table;
+use totals::Totals;
 
 // ---- writing
 
@@ -229,6 +230,7 @@ struct ReadSet {
 struct ReadSets {
     ok: bool,
     sets: Sets,
+    totals: Totals,
     next: usize,
 }
 
@@ -528,6 +530,7 @@ fn no_sets() -> ReadSets
     ReadSets {
         ok: false,
         sets: Sets::empty(),
+        totals: Totals::none(),
         next: 0,
     }
 }
@@ -542,6 +545,7 @@ fn read_sets(count: usize, bytes: &[u8], at: usize) -> ReadSets
     let mut keys = [0u32; Sets::KEYS];
     let mut on = [false; Sets::KEYS];
     let mut shown = [none; Sets::KEYS];
+    let mut totals = Totals::none();
     let mut last = 0u32;
     let mut place = at;
     let mut i = 0;
@@ -553,6 +557,7 @@ fn read_sets(count: usize, bytes: &[u8], at: usize) -> ReadSets
         keys[i] = read.key;
         on[i] = read.on;
         let list = read.list;
+        totals = totals.with(list.len, read.on);
         shown[i] = list;
         last = read.key;
         place = read.next;
@@ -568,6 +573,7 @@ fn read_sets(count: usize, bytes: &[u8], at: usize) -> ReadSets
     ReadSets {
         ok: true,
         sets,
+        totals,
         next: place,
     }
 }
@@ -604,8 +610,9 @@ pub fn load_sheet(bytes: &[u8]) -> Loaded
         return not_a_sheet();
     }
     let sets = read.sets;
+    let totals = read.totals;
     Loaded {
         outcome: Outcome::Done,
-        table: Table::of(sets),
+        table: Table::of(sets, totals),
     }
 }

@@ -52,8 +52,8 @@ of-requires c κs = search needs
 
 returns-4 : tie.Need-returns-4
 returns-4 c =
-    load-made _ (λ i. c .before .before .before .before .before .before .before .before .before .before .before .shared-slice-known .given i .fits) _ _ (sym (c .before .before .before .before .before .before .before .before .count .given .1) ∙ c .before .before .before .before .before .before .before .before .before .before .read-at-most .ensures)
-    _ (c .before .before .before .before .before .before .read-sets .ensures) (not-false _ (c .before .before .before .before .if1 .left)) (c .before .before .if2 .left) _ (c .of .ensures)
+    load-made _ (λ i. c .before .before .before .before .before .before .before .before .before .before .before .before .shared-slice-known .given i .fits) _ _ (sym (c .before .before .before .before .before .before .before .before .before .count .given .1) ∙ c .before .before .before .before .before .before .before .before .before .before .before .read-at-most .ensures)
+    _ (c .before .before .before .before .before .before .before .read-sets .ensures) (not-false _ (c .before .before .before .before .before .if1 .left)) (c .before .before .before .if2 .left) _ (c .of .ensures)
 
 pub load-sheet-spec : {M : Type 1} → statement M
 load-sheet-spec =
