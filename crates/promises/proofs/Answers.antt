@@ -1,9 +1,9 @@
 -- Every call has a numbered outcome, and every refusal says what it leaves (document 01, demand 1). In order: reading a block,
--- a recording, forgetting, copying out; of each the answers that there are (a data type with a constructor for each kind of
+-- a recording, forgetting, copying out, the totals; of each the answers that there are (a data type with a constructor for each kind of
 -- answer: when it is given, its number, and what is left), that there are no others, and what a refusal leaves.
 use Prim.Native.Nat.{ℕ, _%_, _≤_, _<_}
 use native.Mathlib.Omega.{arith}
-use mathlib.Core.Path.{_≡_, refl, sym, ap, _∙_, subst}
+use mathlib.Core.Path.{_≡_, refl, sym, ap, ap₂, _∙_, subst}
 use mathlib.Core.Bool.{true, false, _||_}
 use mathlib.Core.List.{List, [], _∷_}
 use mathlib.Core.Logic.{_⊎_, inl, inr}
@@ -15,7 +15,7 @@ use Rattle.rules.specs.declared.Outcome.{Outcome}
 use Rattle.rules.specs.declared.Outcome.the-variants.{Done, NotHeld, ShortBuffer, WrongTable, NotShown}
 use Rattle.rules.specs.Field.{Field}
 use Rattle.rules.specs.Family.{find, forget, dropOpen}
-use Rattle.rules.specs.Collecting.{linkage, IdSet, Held, Entries, Content, withSets, meets, mostKeys}
+use Rattle.rules.specs.Collecting.{linkage, IdSet, Held, Entries, Content, justSets, withSets, meets, mostKeys}
 use Rattle.rules.specs.Outcomes as Outcomes
 use Rattle.rules.specs.Outcomes.{numberOf, taken, verdict, leftOver, roomless, heldOr, forgetOutcome, forgotten, copySet, copyHeld, copyOut, notCopied}
 use Rattle.rules.proofs.Basics.{cases-bool, cases-option, none-some, or-cases, or-false-left, or-false-right}
@@ -26,24 +26,25 @@ use Rattle.lists.specs.Stored.{emptyList}
 use Rattle.table.specs.declared.Table.{Table}
 use Rattle.table.specs.declared.Forgotten.{Forgotten}
 use Rattle.table.specs.declared.Copied.{Copied}
+use Rattle.table.specs.declared.Counted.{Counted}
 use Rattle.table.specs.Stored.{tableOf, storeTable, Stored, stored, notStored}
 use Rattle.table.specs.Answers.{forgottenAs, copiedAs}
-use Rattle.table.proofs.GivenLaws.{sets-are}
-use Rattle.sets.specs.declared.Sets.{Sets}
-use Rattle.sets.specs.Stored.{storeSets, withDraft}
+use Rattle.totals.specs.Totals.{sums, totalsOf, noTotals}
+use Rattle.totals.proofs.Laws.{shown-closed}
+use Rattle.sets.specs.Stored.{withDraft}
 use Rattle.sets.proofs.StoreLaws.{store-closed}
 use Rattle.reading.specs.declared.Answer.{Answer}
 use Rattle.reading.specs.declared.Recorded.{Recorded}
 use Rattle.reading.specs.Steps.{storeNotes, noNotes}
 use Rattle.reading.specs.Runs.{runAs, refusedTable, recordedAs, unrecorded}
 use Rattle.reading.proofs.RunLaws.{no-notes}
-use Rattle.promises.proofs.Contracts.{ReadsBlock, ReadsRecording, Forgets, CopiesOut}
+use Rattle.promises.proofs.Contracts.{ReadsBlock, ReadsRecording, Forgets, CopiesOut, Counts}
 
 -- ---- reading a block: 0 to 6, or 9
 
--- no list is open; held keys, on and off, shown sets, and whatever else there is, are as they were
+-- no list is open; held keys, on and off, shown sets, totals, and whatever else there is, are as they were
 abbrev pub OpenDropped : Table → Table → Type 0
-OpenDropped t u = u ≡ tableOf (withDraft (t .sets) (replicate mostKeys emptyList))
+OpenDropped t u = u ≡ tableOf (withDraft (t .sets) (replicate mostKeys emptyList)) (t .totals)
 
 pub data BlockAnswer (t : Table) (fib : List ℕ) (r : Answer) : Type 0 where
   -- 0, with one note a field
@@ -58,10 +59,11 @@ pub data BlockAnswer (t : Table) (fib : List ℕ) (r : Answer) : Type 0 where
   wrongTable : (Stored t → ⊥) → numberOf (r .outcome) ≡ 9 → r .place ≡ 0 → r .notes ≡ noNotes → r .table ≡ t → BlockAnswer t fib r
 
 dropped : (t u : Table) (c : Content) → meets c ≡ true → t ≡ storeTable c → u ≡ storeTable (withSets c (dropOpen linkage (c .sets))) → OpenDropped t u
+unfolding totalsOf
 dropped t u c f p q =
     q
-    ∙ ap tableOf (store-closed (c .sets) (table-rules (c .sets) .0 f .short))
-    ∙ ap (λ (x : Sets). tableOf (withDraft x (replicate mostKeys emptyList))) (sym (sets-are t c f p))
+    ∙ ap₂ tableOf (store-closed (c .sets) (table-rules (c .sets) .0 f .short)) (ap sums (shown-closed (c .sets)))
+    ∙ ap (λ (x : Table). tableOf (withDraft (x .sets) (replicate mostKeys emptyList)) (x .totals)) (sym p)
 
 pub read-block-answers : (t : Table) (fib : List ℕ) (r : Answer) → ReadsBlock t fib r → BlockAnswer t fib r
 unfolding Stored runAs refusedTable numberOf storeNotes
@@ -170,7 +172,7 @@ forget-key-answers t k r (stored c f p a) =
     let n = ap (λ (x : Forgotten). numberOf (x .outcome)) a in
     cases-option (find linkage k (c .sets))
     (λ e. notHeld c (f, p) e (n ∙ ap (λ (o : Option Held). numberOf (heldOr o Done)) e)
-    (ap (λ (x : Forgotten). x .table) a ∙ ap (λ (s : Entries). tableOf (storeSets s)) (forget-unheld k (c .sets) e) ∙ sym p))
+    (ap (λ (x : Forgotten). x .table) a ∙ ap (λ (s : Entries). storeTable (justSets s)) (forget-unheld k (c .sets) e) ∙ sym p))
     (λ x e. done c (f, p) x e (n ∙ ap (λ (o : Option Held). numberOf (heldOr o Done)) e))
 forget-key-answers t k r (notStored n a) = wrongTable n (ap (λ (x : Forgotten). numberOf (x .outcome)) a) (ap (λ (x : Forgotten). x .table) a)
 
@@ -251,3 +253,16 @@ module _ (t : Table) (k : ℕ) (ns ks : List ℕ) (r : Copied) (ms js : List ℕ
   copy-out-refused (notShown c s e f g o u) h = (u .numbers, u .kinds)
   copy-out-refused (shortBuffer c s e f l g b o u) h = (u .numbers, u .kinds)
   copy-out-refused (wrongTable s o u) h = (u .numbers, u .kinds)
+
+-- ---- the totals: 0 or 9
+
+pub data CountAnswer (t : Table) (r : Counted) : Type 0 where
+  -- 0: the sums over the sets that are shown
+  done : (c : Content) → Stores t c → numberOf (r .outcome) ≡ 0 → r .totals ≡ totalsOf c → CountAnswer t r
+  -- 9: none
+  wrongTable : (Stored t → ⊥) → numberOf (r .outcome) ≡ 9 → r .totals ≡ noTotals → CountAnswer t r
+
+pub totals-answers : (t : Table) (r : Counted) → Counts t r → CountAnswer t r
+unfolding numberOf
+totals-answers t r (stored c f p a) = done c (f, p) (ap (λ (x : Counted). numberOf (x .outcome)) a) (ap (λ (x : Counted). x .totals) a)
+totals-answers t r (notStored n a) = wrongTable n (ap (λ (x : Counted). numberOf (x .outcome)) a) (ap (λ (x : Counted). x .totals) a)

@@ -4,14 +4,17 @@ use Prim.Native.Nat.{ℕ}
 use mathlib.Core.Path.{_≡_}
 use mathlib.Core.Bool.{Bool}
 use mathlib.Core.List.{List}
-use Rattle.rules.specs.declared.Outcome.the-variants.{WrongTable}
+use Rattle.rules.specs.declared.Outcome.the-variants.{Done, WrongTable}
 use Rattle.rules.specs.Outcomes.{readBlock, copyOut, notCopied}
 use Rattle.pieces.specs.Air.{air}
 use Rattle.layout.specs.Sheet.{sheet}
 use Rattle.text.specs.Listing.{listing}
+use Rattle.screen.specs.Screen.{totalsText}
+use Rattle.totals.specs.Totals.{totalsOf, noTotals}
 use Rattle.table.specs.declared.Table.{Table}
 use Rattle.table.specs.declared.Forgotten.{Forgotten}
 use Rattle.table.specs.declared.Copied.{Copied}
+use Rattle.table.specs.declared.Counted.{Counted}
 use Rattle.table.specs.Stored.{Given}
 use Rattle.table.specs.Answers.{forgottenAs, copiedAs}
 use Rattle.reading.specs.declared.Answer.{Answer}
@@ -36,6 +39,9 @@ Forgets t k r = Given t (λ c. r ≡ forgottenAs k c) (r ≡ record { outcome = 
 abbrev pub CopiesOut : Table → ℕ → List ℕ → List ℕ → Copied → List ℕ → List ℕ → Type 0
 CopiesOut t k ns ks r ms js = Given t (λ c. copiedAs r ms js ≡ copyOut k c ns ks) (copiedAs r ms js ≡ notCopied WrongTable ns ks)
 
+abbrev pub Counts : Table → Counted → Type 0
+Counts t r = Given t (λ c. r ≡ record { outcome = Done; totals = totalsOf c }) (r ≡ record { outcome = WrongTable; totals = noTotals })
+
 -- each output: the buffer before, the answer, the buffer after; of the listing with the bytes left over
 abbrev pub WritesListing : Table → ℕ → List ℕ → Written → List ℕ → Type 0
 WritesListing t over = Outputs (λ c. listing c over) t
@@ -43,6 +49,9 @@ WritesListing t over = Outputs (λ c. listing c over) t
 -- for a spreadsheet or for eyes
 abbrev pub WritesColumns : Table → Bool → List ℕ → Written → List ℕ → Type 0
 WritesColumns t csv = Outputs (columns csv) t
+
+abbrev pub WritesTotals : Table → List ℕ → Written → List ℕ → Type 0
+WritesTotals = Outputs totalsText
 
 abbrev pub WritesSheet : Table → List ℕ → Written → List ℕ → Type 0
 WritesSheet = Outputs sheet

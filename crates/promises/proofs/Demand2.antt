@@ -1,6 +1,6 @@
 -- A caller has exactly what the rules say of the blocks and forgettings so far, and what is written reads back to the same sets (document
--- 00, demand 2). Below, of calls of read_block and forget_key, in order: from any table that meets the table rules; from the empty one;
--- that there are such calls. The rest is handed on from where it is proved.
+-- 00, demand 2). Below, of calls of read_block and forget_key, in order: from any table that meets the table rules; the totals then; from
+-- the empty one; that there are such calls. The rest is handed on from where it is proved.
 use mathlib.Core.Path.{_≡_, refl, ap₂}
 use mathlib.Core.List.{List, [], _∷_}
 use Rattle.rules.specs.Collecting.{Content, nothing}
@@ -9,7 +9,7 @@ use Rattle.promises.specs.Demand3.{Operation, block, forgetting, afterOn
 use Rattle.rules.proofs.Basics.{Every}
 use Rattle.rules.proofs.TableRules.{meets-nil}
 use Rattle.table.specs.declared.Table.{Table}
-use Rattle.table.specs.Stored.{storeTable, stored}
+use Rattle.table.specs.Stored.{storeTable, Stored, stored}
 use Rattle.table.specs.Answers.{forgottenAs}
 use Rattle.reading.specs.Runs.{runAs}
 use Rattle.promises.proofs.Contracts.{ReadsBlock, Forgets}
@@ -21,6 +21,8 @@ pub use Rattle.promises.proofs.Kept.{read-block-keeps, read-recording-k
 -- what is written for air, read twice into an empty table; what is written as a sheet, loaded, and what is loaded, written
 pub use Rattle.promises.proofs.AirWritten.{write-air-shows, write-air-shows-twice-over, write-air-reads-back}
 pub use Rattle.promises.proofs.SheetWritten.{write-sheet-loads, load-sheet-writes}
+-- the totals of what is handed back are the sums over its sets; a wrong figure is 9 (document 02, R-7)
+pub use Rattle.promises.proofs.Totals.{RightTotals, stored-totals, read-block-totals, read-recording-totals, forget-key-totals, load-sheet-totals, wrong-totals}
 
 -- From a table that stores a content, calls end in the table that stores what the rules make of that content (which meets the table
 -- rules again), and on the way they are answered what the rules say.
@@ -36,6 +38,12 @@ calls-hold c s b (forgets {k} r x xs) =
     let one = forget-call c k r s x in
     let rest = calls-hold (afterOne c (forgetting k)) (one .0) (b .1) xs in
     (rest .0, ap₂ _∷_ (one .1) (rest .1))
+
+-- So the totals of the table in which they end are the sums over its sets.
+pub calls-totals : {t u : Table} {ops : List Operation} {rs : List Reply} (c : Content) → Stores t c → Every OfBytes ops → Calls t ops rs u
+    → RightTotals u
+unfolding Stored
+calls-totals {u = u} {ops = ops} c s b xs = let e = calls-hold c s b xs .0 in stored-totals u (afterAll c ops, e .0, e .1)
 
 -- From the table that holds nothing.
 pub calls-hold-from-empty : {u : Table} {ops : List Operation} {rs : List Reply} → Every OfBytes ops → Calls (storeTable nothing) ops rs u

@@ -1,5 +1,6 @@
--- Examples 15 and 16 of document 01: the sheet and the listing of the table that example 2 leaves. And of the table that an RDS list
--- with OE 1 leaves (document 02, R-3): its sheet, its listing, and for air the block that it was read from. The others are in crate rules.
+-- Examples 15 and 16 of document 01: the sheet and the listing of the table that example 2 leaves, and its totals (document 02, R-7).
+-- And of the table that an RDS list with OE 1 leaves (R-3): its sheet, its listing, and for air the block that it was read from. The
+-- others are in crate rules.
 use mathlib.Core.Path.{_≡_, refl}
 use mathlib.Core.Bool.{true}
 use mathlib.Core.List.{[], _∷_}
@@ -12,6 +13,9 @@ use Rattle.lists.specs.Kinds.{hasKind}
 use Rattle.out.specs.Text.{hexDigit, hexText, decimalTo, decimal}
 use Rattle.layout.specs.Sheet.{groups, sheetNumber, sheetPairs, sheetSet, sheetSets, sheet}
 use Rattle.pieces.specs.Air.{pieceMost, goesOn, pieceWith, completed, chop, startQualifier, cut, deadLink, pieces, bigBytes, allBytes, fieldBytes, figBytes, blockOf, blocksOf, setBlocks, allBlocks, air}
+use Rattle.totals.specs.Totals.{sumOf, sums, totalsOf}
+use Rattle.screen.specs.Screen.{totalsText}
+use Rattle.screen.specs.Screen as screen
 use Rattle.text.specs.Listing.{kindLetter, pairText, pairsText, deadText, stateText, idsText, lineOf, linesOf, tailText, listing}
 
 pub sheet-holds : sheet (E true (some two) (some two)) ≡ 0x01 ∷ 0x84 ∷ 0x40 ∷ 0x01 ∷ 0x01 ∷ 0x02 ∷ 0x00 ∷ 0xB1 ∷ 0x89 ∷ 0x01 ∷ 0x01 ∷ 0xB1 ∷ 0x89 ∷ 0x01 ∷ []
@@ -22,6 +26,11 @@ sheet-holds = refl
 pub listing-holds : listing (E true (some two) (some two)) 0 ≡ 115 ∷ 101 ∷ 116 ∷ 115 ∷ 32 ∷ 49 ∷ 10 ∷ 50 ∷ 48 ∷ 48 ∷ 52 ∷ 32 ∷ 111 ∷ 110 ∷ 32 ∷ 105 ∷ 100 ∷ 115 ∷ 32 ∷ 50 ∷ 32 ∷ 68 ∷ 52 ∷ 52 ∷ 66 ∷ 49 ∷ 32 ∷ 82 ∷ 52 ∷ 52 ∷ 66 ∷ 49 ∷ 10 ∷ []
 unfolding listing linesOf lineOf pairsText pairText deadText stateText idsText tailText kindLetter hexText hexDigit decimal decimalTo hasKind keyWidth width shownSets showing pair
 listing-holds = refl
+
+-- `shown 1, on 1, identifiers 2`
+pub totals-hold : totalsText (E true (some two) (some two)) ≡ 115 ∷ 104 ∷ 111 ∷ 119 ∷ 110 ∷ 32 ∷ 49 ∷ 44 ∷ 32 ∷ 111 ∷ 110 ∷ 32 ∷ 49 ∷ 44 ∷ 32 ∷ 105 ∷ 100 ∷ 101 ∷ 110 ∷ 116 ∷ 105 ∷ 102 ∷ 105 ∷ 101 ∷ 114 ∷ 115 ∷ 32 ∷ 50 ∷ 10 ∷ []
+unfolding totalsText screen.lineOf totalsOf sums sumOf bit decimal decimalTo shownSets showing
+totals-hold = refl
 
 pub other-sheet-holds : sheet (O (some codes) (some codes)) ≡ 0x01 ∷ 0x84 ∷ 0xC0 ∷ 0x02 ∷ 0x01 ∷ 0x01 ∷ 0x02 ∷ 0x01 ∷ 0xB1 ∷ 0x89 ∷ 0x01 ∷ 0x01 ∷ 0xB1 ∷ 0x87 ∷ 0x01 ∷ []
 unfolding sheet sheetSets sheetSet sheetPairs sheetNumber groups bit shownSets showing pair

@@ -13,6 +13,7 @@ pub mod Buffers
 pub mod AirWritten
 pub mod SheetWritten
 pub mod FirstNumber
+pub mod Totals
 pub mod Better
 pub mod Needed
 pub mod Examples

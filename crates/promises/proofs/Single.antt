@@ -1,10 +1,11 @@
 -- A contract admits a single answer. In order: an equation; a run of stores; a given table (`given-single`), by it reading a
--- block, a recording, forgetting, copying out with both buffers; an output with its buffer (`write-single`), by it the listing,
--- the columns, the sheet and the blocks for air; loading a sheet; a test.
+-- block, a recording, forgetting, copying out with both buffers, the totals; an output with its buffer (`write-single`), by it the
+-- listing, the columns, the totals as a line, the sheet and the blocks for air; loading a sheet; a test.
 use Prim.Native.Nat.{ℕ}
 use mathlib.Core.Path.{_≡_, refl, sym, ap, _∙_}
 use mathlib.Core.Bool.{Bool, true, false}
 use mathlib.Core.List.{List}
+use Rattle.rules.specs.declared.Outcome.the-variants.{Done}
 use Rattle.rules.specs.Collecting.{Content}
 use Rattle.rules.specs.Outcomes.{readBlock, copyOut}
 use Rattle.rules.specs.Outcomes as Outcomes
@@ -13,11 +14,14 @@ use Rattle.out.specs.Writing.{writtenTo}
 use Rattle.out.specs.Writing as Writing
 use Rattle.layout.specs.Sheet.{sheet}
 use Rattle.text.specs.Listing.{listing}
+use Rattle.screen.specs.Screen.{totalsText}
+use Rattle.totals.specs.Totals.{totalsOf}
 use Rattle.layout.proofs.Laws.{load-single}
 use Rattle.lists.specs.Stored.{Tested}
 use Rattle.table.specs.declared.Table.{Table}
 use Rattle.table.specs.declared.Forgotten.{Forgotten}
 use Rattle.table.specs.declared.Copied.{Copied}
+use Rattle.table.specs.declared.Counted.{Counted}
 use Rattle.table.specs.Stored.{storeTable, Stored, Given, stored, notStored}
 use Rattle.table.specs.Answers.{forgottenAs, copiedAs}
 use Rattle.table.proofs.GivenLaws.{given-content}
@@ -32,7 +36,7 @@ use Rattle.sheet.specs.Loading.{Loads}
 use Rattle.columns.specs.Columns.{columns}
 use Rattle.outputs.specs.declared.Output.{Output}
 use Rattle.outputs.specs.Output.{outputOf}
-use Rattle.promises.proofs.Contracts.{ReadsBlock, ReadsRecording, Forgets, CopiesOut, WritesListing, WritesColumns, WritesSheet, WritesAir, WritesOutput}
+use Rattle.promises.proofs.Contracts.{ReadsBlock, ReadsRecording, Forgets, CopiesOut, Counts, WritesListing, WritesColumns, WritesTotals, WritesSheet, WritesAir, WritesOutput}
 
 -- a result that an equation says
 pub equal-single : {A : Type 0} {x y z : A} → x ≡ z → y ≡ z → x ≡ y
@@ -58,6 +62,9 @@ read-recording-single t bytes r q a b = given-single t r q _ (λ c. recordedAs c
 
 pub forget-key-single : (t : Table) (k : ℕ) (r q : Forgotten) → Forgets t k r → Forgets t k q → r ≡ q
 forget-key-single t k r q a b = given-single t r q _ (forgottenAs k) a b
+
+pub totals-single : (t : Table) (r q : Counted) → Counts t r → Counts t q → r ≡ q
+totals-single t r q a b = given-single t r q _ (λ c. record { outcome = Done; totals = totalsOf c }) a b
 
 -- an answer and both buffers, taken apart
 pub copied-apart : (r q : Copied) (ns ks ms js : List ℕ) → copiedAs r ns ks ≡ copiedAs q ms js → (r ≡ q) × (ns ≡ ms) × (ks ≡ js)
@@ -90,6 +97,10 @@ write-listing-single t over = write-single (λ c. listing c over) t
 pub write-columns-single : (t : Table) (csv : Bool) (old : List ℕ) (r q : Written) (new other : List ℕ)
     → WritesColumns t csv old r new → WritesColumns t csv old q other → (r ≡ q) × (new ≡ other)
 write-columns-single t csv = write-single (columns csv) t
+
+pub write-totals-single : (t : Table) (old : List ℕ) (r q : Written) (new other : List ℕ)
+    → WritesTotals t old r new → WritesTotals t old q other → (r ≡ q) × (new ≡ other)
+write-totals-single = write-single totalsText
 
 pub write-sheet-single : (t : Table) (old : List ℕ) (r q : Written) (new other : List ℕ)
     → WritesSheet t old r new → WritesSheet t old q other → (r ≡ q) × (new ≡ other)

@@ -25,11 +25,17 @@ write-columns-requires-2 c κs = search needs
 enum-told-4 : tie.Need-enum-told-4
 enum-told-4 c = search needs
 
-write-sheet-requires : tie.Need-write-sheet-requires
-write-sheet-requires c κs = search needs
+write-totals-requires : tie.Need-write-totals-requires
+write-totals-requires c κs = search needs
 
 enum-told-5 : tie.Need-enum-told-5
 enum-told-5 c = search needs
+
+write-sheet-requires : tie.Need-write-sheet-requires
+write-sheet-requires c κs = search needs
+
+enum-told-6 : tie.Need-enum-told-6
+enum-told-6 c = search needs
 
 write-air-requires : tie.Need-write-air-requires
 write-air-requires c κs = search needs
@@ -60,14 +66,21 @@ same-length-4 c = search needs
 
 returns-4 : tie.Need-returns-4
 unfolding outputOf
-returns-4 c = rw (c .before .before .before .before .enum-told4 .given .1) (c .before .before .write-sheet .ensures)
+returns-4 c = rw (c .before .before .before .before .enum-told4 .given .1) (c .before .before .write-totals .ensures)
 
 same-length-5 : tie.Need-same-length-5
 same-length-5 c = search needs
 
 returns-5 : tie.Need-returns-5
 unfolding outputOf
-returns-5 c = rw (c .before .before .before .before .enum-told5 .given .1) (c .before .before .write-air .ensures)
+returns-5 c = rw (c .before .before .before .before .enum-told5 .given .1) (c .before .before .write-sheet .ensures)
+
+same-length-6 : tie.Need-same-length-6
+same-length-6 c = search needs
+
+returns-6 : tie.Need-returns-6
+unfolding outputOf
+returns-6 c = rw (c .before .before .before .before .enum-told6 .given .1) (c .before .before .write-air .ensures)
 
 pub write-output-spec : {M : Type 1} → statement M
 write-output-spec =
@@ -80,8 +93,10 @@ write-output-spec =
     enum-told-3
     write-columns-requires-2
     enum-told-4
-    write-sheet-requires
+    write-totals-requires
     enum-told-5
+    write-sheet-requires
+    enum-told-6
     write-air-requires
     same-length
     returns
@@ -92,4 +107,6 @@ write-output-spec =
     same-length-4
     returns-4
     same-length-5
-    returns-5)
+    returns-5
+    same-length-6
+    returns-6)
