@@ -42,6 +42,7 @@ fn asked_for(action: Action, options: Options) -> Output {
     match action {
         Action::Sheet => Output::Sheet,
         Action::Air => Output::Blocks,
+        Action::Totals => Output::Totals,
         _ => {
             if options.table {
                 return Output::Columns;
@@ -80,6 +81,7 @@ fn reads_recording(action: Action) -> bool {
         Action::Sheet => true,
         Action::Figs => true,
         Action::Check => true,
+        Action::Totals => true,
         _ => false,
     }
 }

@@ -11,6 +11,7 @@ pub(crate) enum Action {
     Air,
     Figs,
     Check,
+    Totals,
     Help,
     Unknown,
 }
@@ -64,6 +65,9 @@ pub(crate) fn action_of(word: &[u8]) -> Action {
     }
     if same(word, b"check") {
         return Action::Check;
+    }
+    if same(word, b"totals") {
+        return Action::Totals;
     }
     if same(word, b"help") {
         return Action::Help;
