@@ -541,7 +541,6 @@ fn read_sets(count: usize, bytes: &[u8], at: usize) -> ReadSets
     ensures { λ r. ⌜ r ≡ setsAs (readSets count 0 [] (now (bytes .entry)) at) ⌝ }
 {
     let none = IdList::empty();
-    let draft = [none; Sets::KEYS];
     let mut keys = [0u32; Sets::KEYS];
     let mut on = [false; Sets::KEYS];
     let mut shown = [none; Sets::KEYS];
@@ -568,7 +567,7 @@ fn read_sets(count: usize, bytes: &[u8], at: usize) -> ReadSets
         keys,
         on,
         shown,
-        draft,
+        draft: [none; Sets::KEYS],
     };
     ReadSets {
         ok: true,

@@ -6,7 +6,7 @@ use mathlib.Core.List.{[], _∷_}
 use lib.ListN.{getD}
 use lib.Dec.{eqb}
 use Rattle.rules.specs.Block.{bit}
-use Rattle.rules.specs.Collecting.{Held, Entries, mostKeys}
+use Rattle.rules.specs.Collecting.{Entries, mostKeys}
 use Rattle.lists.specs.Stored.{storeMaybe}
 use Rattle.sets.specs.declared.Sets.{Sets}
 use Rattle.sets.specs.Stored.{past}

@@ -26,11 +26,10 @@ add-result-3 c = search needs
 
 returns : tie.Need-returns
 unfolding lineOf
-returns c =
-    (
-      simp length-append (omega (arith, c .before .before .decimal-size .ensures .0, c .before .decimal-size2 .ensures .0, c .decimal-size3 .ensures .0)),
-      omega (arith, c .before .before .decimal-size .ensures .1, c .before .decimal-size2 .ensures .1, c .decimal-size3 .ensures .1),
-    )
+returns c = (
+  simp length-append (omega (arith, c .before .before .decimal-size .ensures .0, c .before .decimal-size2 .ensures .0, c .decimal-size3 .ensures .0)),
+  omega (arith, c .before .before .decimal-size .ensures .1, c .before .decimal-size2 .ensures .1, c .decimal-size3 .ensures .1),
+)
 
 pub line-size-spec : {M : Type 1} → statement M
 line-size-spec =

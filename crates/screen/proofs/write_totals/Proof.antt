@@ -1,11 +1,9 @@
 -- `screen::write_totals` meets its contract: a table that meets the rules stores the sums of its content.
 use native.Mathlib.Omega.{arith}
-use mathlib.Core.Path.{_≡_, refl, ap, _∙_}
-use mathlib.Core.Bool.{true}
+use mathlib.Core.Path.{_≡_, refl, ap}
 use lib.ListN.{length}
 use borrow.Author.Tests.{not-true, not-false}
-use Rattle.rules.specs.Collecting.{Content, meets}
-use Rattle.totals.specs.declared.Totals.{Totals}
+use Rattle.rules.specs.Collecting.{Content}
 use Rattle.table.specs.declared.Table.{Table}
 use Rattle.table.specs.Stored.{storeTable}
 use Rattle.table.proofs.GivenLaws.{given-wrong, given-right}

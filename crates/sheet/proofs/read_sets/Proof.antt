@@ -2,18 +2,20 @@
 use Prim.Native.Nat.{_-_, _≤_}
 use native.Mathlib.Omega.{arith}
 use mathlib.Core.Path.{_∙_}
+use mathlib.Core.List.{[]}
 use borrow.Author.Tests.{not-true, not-false}
 use Rattle.rules.specs.Arrays.{padded}
+use Rattle.rules.specs.Collecting.{mostKeys}
 use Rattle.sheet.proofs.Sets.{Filled, sets-start, sets-wrong, sets-next, sets-made}
 use borrow.Author.Needs.{needs}
 use Rattle.sheet.proofs.read_sets.Statement.{statement}
 use Rattle.sheet.proofs.read_sets.Tie as tie
 
 abbrev Inv-loop : tie.InvT-loop
-Inv-loop count bytes at draft keys₀ on₀ shown₀ totals₀ last₀ place₀ i₀ keys on shown totals last place i = (i ≤ count) × Filled count bytes at draft keys on shown totals last place i
+Inv-loop count bytes at none keys₀ on₀ shown₀ totals₀ last₀ place₀ i₀ keys on shown totals last place i = (i ≤ count) × Filled count bytes at (padded mostKeys none []) keys on shown totals last place i
 
 abbrev μ-loop : tie.MeasureT-loop
-μ-loop count bytes at draft keys₀ on₀ shown₀ totals₀ last₀ place₀ i₀ keys on shown totals last place i = count - i
+μ-loop count bytes at none keys₀ on₀ shown₀ totals₀ last₀ place₀ i₀ keys on shown totals last place i = count - i
 
 empty-requires : tie.Need-empty-requires Inv-loop μ-loop
 empty-requires c κs = search needs
@@ -62,6 +64,7 @@ loop-again : tie.Need-loop-again Inv-loop μ-loop
 loop-again c = (omega arith, sets-next _ _ _ _ _ _ _ _ _ _ _ (c .before .before .before .before .before .before .loop .inv .1) _ (c .before .before .before .before .before .loop-test .taken) (c .before .before .before .before .before .before .before .before .before .before .pre) (c .before .before .before .before .read-set .ensures) (not-false _ (c .before .before .if1 .left)) _ (c .with .ensures))
 
 returns-2 : tie.Need-returns-2 Inv-loop μ-loop
+unfolding padded
 returns-2 c = sets-made _ _ _ _ _ _ _ _ _ _ _ (c .before .loop .inv .1) (c .before .loop .inv .0) (c .loop-test .left)
 
 pub read-sets-spec : {M : Type 1} → statement M

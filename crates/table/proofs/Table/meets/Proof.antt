@@ -1,5 +1,4 @@
 -- `table::Table::meets` meets its contract: the test of a table is that of its sets, and then that of its totals.
-use mathlib.Core.Path.{_∙_}
 use borrow.Author.Needs.{needs}
 use borrow.Author.Tests.{not-true, not-false}
 use Rattle.table.proofs.GivenLaws.{tested-wrong, tested-totals}

@@ -1,9 +1,7 @@
 -- `table::Table::totals` meets its contract: a table that meets the rules stores the sums.
-use mathlib.Core.Path.{_≡_, ap, _∙_}
 use borrow.Author.Needs.{needs}
 use borrow.Author.Tests.{not-true, not-false}
 use Rattle.rules.specs.declared.Outcome.the-variants.{Done, WrongTable}
-use Rattle.table.specs.declared.Table.{Table}
 use Rattle.table.proofs.GivenLaws.{given-wrong, given-right}
 use Rattle.table.proofs.Table.totals.Statement.{statement}
 use Rattle.table.proofs.Table.totals.Tie as tie

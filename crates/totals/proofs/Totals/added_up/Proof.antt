@@ -58,14 +58,13 @@ loop-again c =
     let k = l .loop .k in
     let more = c .before .before .before .loop-test .taken in
     let next : k - 1 + 1 ≡ k = omega arith in
-    let e : n - (k - 1) ≡ suc (n - k) = omega (arith, l .loop .inv .1) in
-    (
+    let e : n - (k - 1) ≡ suc (n - k) = omega (arith, l .loop .inv .1) in (
       l .loop .inv .0,
       omega (arith, l .loop .inv .1),
       c .with .ensures
-      ∙ ap (λ (u : Totals). withSet u (getD (t .shown) (k - 1) past .len) (getD (t .on) (k - 1) false))
-      (l .loop .inv .2 ∙ sym (ap (λ (i : ℕ). totalsFrom t i (n - k)) next))
-      ∙ sym (ap (totalsFrom t (k - 1)) e),
+          ∙ ap (λ (u : Totals). withSet u (getD (t .shown) (k - 1) past .len) (getD (t .on) (k - 1) false))
+          (l .loop .inv .2 ∙ sym (ap (λ (i : ℕ). totalsFrom t i (n - k)) next))
+          ∙ sym (ap (totalsFrom t (k - 1)) e),
     )
 
 returns : tie.Need-returns Inv-loop μ-loop

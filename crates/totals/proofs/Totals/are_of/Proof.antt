@@ -1,8 +1,6 @@
 -- `totals::Totals::are_of` meets its contract: the figures one by one.
 use mathlib.Core.Path.{_≡_, refl, ap, _∙_}
-use mathlib.Core.Bool.{false}
 use borrow.Author.Tests.{eq-eqb, ne-eqb}
-use Rattle.totals.specs.declared.Totals.{Totals}
 use Rattle.totals.specs.Kept.{totalsIn, sameTotals}
 use borrow.Author.Needs.{needs}
 use Rattle.totals.proofs.Totals.are_of.Statement.{statement}
