@@ -15,7 +15,7 @@ use borrow.Author.Tests.{ne-eqb, eqb-true, eq-eqb}
 use Rattle.rules.specs.Block.{bit}
 use Rattle.rules.specs.Family.{insert, forget, dropOpen, closed, entryWith}
 use Rattle.rules.specs.Collecting.{linkage, IdSet, Held, Entries, Content, ifThere, entryMeets, entriesMeet, setsMeet, meets, Shown, showing, shownSets, mostKeys, mostIds}
-use Rattle.rules.proofs.Basics.{cases-option, and-left, and-right, and-three, bit-small}
+use Rattle.rules.proofs.Basics.{cases-bool, cases-option, and-left, and-right, and-three, bit-small}
 use Rattle.rules.proofs.TableRules.{lawful, set-rules, entry-rules, table-rules}
 use Rattle.rules.proofs.Entries.{placeOf, insert-here, forget-here, column-at}
 use Rattle.lists.specs.Stored.{storeList, emptyList, storeMaybe}
@@ -24,7 +24,7 @@ use Rattle.sets.specs.Stored.{onIn, shownIn, storeSets, past}
 use Rattle.sets.proofs.Entries.{Here, noEntry, entry-at}
 use Rattle.totals.specs.declared.Totals.{Totals}
 use Rattle.totals.specs.Totals.{sumOf, sums, totalsOf, noTotals}
-use Rattle.totals.specs.Kept.{most, raised, ofSet, plus, minus, withSet, withoutSet, exchangedSet, keptUp, totalsFrom, totalsIn, sameTotals}
+use Rattle.totals.specs.Kept.{most, raised, ofSet, plus, minus, alike, withSet, withoutSet, exchangedSet, keptUp, totalsFrom, totalsIn, sameTotals}
 
 -- ---- figures side by side
 
@@ -42,6 +42,14 @@ unfolding sameTotals
 is-same t u e =
     and-three (eqb (t .shown) (u .shown)) (eqb (t .on) (u .on)) (eqb (t .identifiers) (u .identifiers)) .1
     (eq-eqb _ _ (ap (λ (x : Totals). x .shown) e), eq-eqb _ _ (ap (λ (x : Totals). x .on) e), eq-eqb _ _ (ap (λ (x : Totals). x .identifiers) e))
+
+-- flags of one number are the same
+same-bit : (a b : Bool) → bit a ≡ bit b → a ≡ b
+unfolding bit
+same-bit true true e = refl
+same-bit true false e = absurd (omega arith)
+same-bit false true e = absurd (omega arith)
+same-bit false false e = refl
 
 -- together, with no limit
 abbrev add : Totals → Totals → Totals
@@ -182,22 +190,43 @@ module _ (c : Entries) (m : setsMeet c ≡ true) (j : ℕ) (h : j < length c) wh
   abbrev on-at : Bool
   on-at = getD c j noEntry .state
 
+  here-meets : entryMeets (getD c j noEntry) ≡ true
+  here-meets = entry-at c (table-rules c .0 m .entries) j h
+
   less : withoutSet (sums (shownSets c)) len-at on-at ≡ sums (shownSets (others c j))
   unfolding withoutSet
   less =
-      ap₂ minus (sums-at c j h) (of-entry (getD c j noEntry) (entry-at c (table-rules c .0 m .entries) j h))
+      ap₂ minus (sums-at c j h) (of-entry (getD c j noEntry) here-meets)
       ∙ minus-add (sums (shownSets (others c j))) (figures (getD c j noEntry))
 
-  pub sums-exchanged : (e : Held) → setsMeet (set c j e) ≡ true
-      → exchangedSet (sums (shownSets c)) len-at on-at (storeMaybe (e .shown) .len) (e .state) ≡ sums (shownSets (set c j e))
-  unfolding exchangedSet withSet
-  sums-exchanged e n =
-      let r = table-rules (set c j e) .0 n in
-      let there : entryMeets e ≡ true =
-      subst (λ (x : Held). entryMeets x ≡ true) (getD-set-same c j e noEntry h) (entry-at (set c j e) (r .entries) j (rw (length-set c j e) h)) in
-      ap₂ plus less (of-entry e there)
-      ∙ plus-add (sums (shownSets (others c j))) (figures e) (subst Small (sums-set c j e h) (small (set c j e) (r .entries) (r .short)))
-      ∙ sym (sums-set c j e h)
+  module _ (e : Held) (n : setsMeet (set c j e) ≡ true) where
+    then-meets : entryMeets e ≡ true
+    then-meets =
+        subst (λ (x : Held). entryMeets x ≡ true) (getD-set-same c j e noEntry h)
+        (entry-at (set c j e) (table-rules (set c j e) .0 n .entries) j (rw (length-set c j e) h))
+
+    -- one that is counted alike
+    sums-alike : alike len-at on-at (storeMaybe (e .shown) .len) (e .state) ≡ true → sums (shownSets c) ≡ sums (shownSets (set c j e))
+    unfolding alike
+    sums-alike a =
+        let lens = eqb-true len-at (storeMaybe (e .shown) .len) (and-left _ _ a) in
+        let states = same-bit on-at (e .state) (eqb-true _ _ (and-right (eqb len-at (storeMaybe (e .shown) .len)) _ a)) in
+        sums-at c j h
+        ∙ ap (λ (t : Totals). add t (sums (shownSets (others c j)))) (sym (of-entry (getD c j noEntry) here-meets) ∙ ap₂ ofSet lens states ∙ of-entry e then-meets)
+        ∙ sym (sums-set c j e h)
+
+    sums-other : withSet (withoutSet (sums (shownSets c)) len-at on-at) (storeMaybe (e .shown) .len) (e .state) ≡ sums (shownSets (set c j e))
+    unfolding withSet
+    sums-other =
+        let r = table-rules (set c j e) .0 n in
+        ap₂ plus less (of-entry e then-meets)
+        ∙ plus-add (sums (shownSets (others c j))) (figures e) (subst Small (sums-set c j e h) (small (set c j e) (r .entries) (r .short)))
+        ∙ sym (sums-set c j e h)
+
+    pub sums-exchanged : exchangedSet (sums (shownSets c)) len-at on-at (storeMaybe (e .shown) .len) (e .state) ≡ sums (shownSets (set c j e))
+    unfolding exchangedSet
+    sums-exchanged =
+        cases-bool (alike len-at on-at (storeMaybe (e .shown) .len) (e .state)) (λ a. rw a (sums-alike a)) (λ a. rw a sums-other)
 
 -- a held key forgotten: its set less
 pub sums-forgotten : (c : Entries) → setsMeet c ≡ true → (k : ℕ) (h : Here c k)

@@ -39,8 +39,13 @@ withSet t n on = plus t (ofSet n on)
 unfoldable pub withoutSet : Totals → ℕ → Bool → Totals
 withoutSet t n on = minus t (ofSet n on)
 
+-- two sets are counted alike: as long, and both on or both off
+unfoldable pub alike : ℕ → Bool → ℕ → Bool → Bool
+alike n on n' on' = eqb n n' && eqb (bit on) (bit on')
+
+-- one like it changes nothing
 unfoldable pub exchangedSet : Totals → ℕ → Bool → ℕ → Bool → Totals
-exchangedSet t n on n' on' = withSet (withoutSet t n on) n' on'
+exchangedSet t n on n' on' = cond (alike n on n' on') t (withSet (withoutSet t n on) n' on')
 
 -- one set after another, of entries
 unfoldable pub keptUp : Entries → Totals

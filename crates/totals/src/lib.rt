@@ -6,7 +6,7 @@ ghost use mathlib.Core.Path.{_≡_};
 ghost use Prim.Native.Nat.{_-_};
 ghost use Rattle.rules.specs.Block.{bit};
 ghost use Rattle.totals.specs.Totals.{noTotals};
-ghost use Rattle.totals.specs.Kept.{raised, ofSet, withSet, withoutSet, exchangedSet, totalsIn, sameTotals};
+ghost use Rattle.totals.specs.Kept.{raised, ofSet, alike, withSet, withoutSet, exchangedSet, totalsIn, sameTotals};
 use sets::Sets;
 
 // The three figures.
@@ -42,6 +42,16 @@ fn bit_of(on: bool) -> usize
     ensures { λ r. ⌜ r ≡ bit on ⌝ }
 {
     if on { 1 } else { 0 }
+}
+
+// Whether a set is counted as another is: as long, and both on or both off.
+fn is_alike(old_len: usize, was_on: bool, len: usize, on: bool) -> bool
+    ensures { λ r. ⌜ r ≡ alike «old_len» «was_on» len on ⌝ }
+{
+    if old_len != len {
+        return false;
+    }
+    bit_of(was_on) == bit_of(on)
 }
 
 impl Totals {
@@ -94,10 +104,14 @@ impl Totals {
         }
     }
 
-    // With a set in the place of another, each by its length, 0 where there is none, and on or off.
+    // With a set in the place of another, each by its length, 0 where there is none, and on or off. Most fields leave a set as
+    // it was: then nothing is counted.
     pub fn exchanged(self, old_len: usize, was_on: bool, len: usize, on: bool) -> Self
         ensures { λ r. ⌜ r ≡ exchangedSet self «old_len» «was_on» len on ⌝ }
     {
+        if is_alike(old_len, was_on, len, on) {
+            return self;
+        }
         let rest = self.without(old_len, was_on);
         rest.with(len, on)
     }
