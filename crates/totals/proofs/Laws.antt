@@ -16,7 +16,7 @@ use Rattle.rules.specs.Block.{bit}
 use Rattle.rules.specs.Family.{insert, forget, dropOpen, closed, entryWith}
 use Rattle.rules.specs.Collecting.{linkage, IdSet, Held, Entries, Content, ifThere, entryMeets, entriesMeet, setsMeet, meets, Shown, showing, shownSets, mostKeys, mostIds}
 use Rattle.rules.proofs.Basics.{cases-bool, cases-option, and-left, and-right, and-three, bit-small}
-use Rattle.rules.proofs.TableRules.{lawful, set-rules, entry-rules, table-rules}
+use Rattle.rules.proofs.TableRules.{lawful, set-rules, entry-rules, table-rules, shown-few}
 use Rattle.rules.proofs.Entries.{placeOf, insert-here, forget-here, column-at}
 use Rattle.lists.specs.Stored.{storeList, emptyList, storeMaybe}
 use Rattle.lists.proofs.StoredLaws.{not-none}
@@ -129,37 +129,37 @@ sums-at c j h = ap (λ (x : Entries). sums (shownSets x)) (sym (set-getD c j noE
 -- ---- how large figures become
 
 figures-most : (key : ℕ) (on : Bool) (o : Option IdSet) → ifThere key o ≡ true
-    → (figuresIn on o .shown ≤ 1) × (figuresIn on o .on ≤ figuresIn on o .shown) × (figuresIn on o .identifiers ≤ mostIds)
+    → (figuresIn on o .on ≤ figuresIn on o .shown) × (figuresIn on o .identifiers ≤ mostIds)
 unfolding figuresIn ifThere
-figures-most key on none m = (omega arith, omega arith, omega arith)
-figures-most key on (some l) m = (omega arith, bit-small on, set-rules key l .0 m .short)
+figures-most key on none m = (omega arith, omega arith)
+figures-most key on (some l) m = (bit-small on, set-rules key l .0 m .short)
 
 sums-most : (c : Entries) → entriesMeet c ≡ true
-    → (sums (shownSets c) .shown ≤ length c) × (sums (shownSets c) .on ≤ sums (shownSets c) .shown) × (sums (shownSets c) .identifiers ≤ length c * mostIds)
+    → (sums (shownSets c) .on ≤ sums (shownSets c) .shown) × (sums (shownSets c) .identifiers ≤ length c * mostIds)
 unfolding shownSets entriesMeet
-sums-most [] m = unfold sums sumOf in (omega arith, omega arith, omega arith)
+sums-most [] m = unfold sums sumOf in (omega arith, omega arith)
 sums-most (e ∷ es) m =
     let here = figures-most (e .key) (e .state) (e .shown) (entry-rules e .0 (and-left (entryMeets e) (entriesMeet es) m) .shown) in
     let rest = sums-most es (and-right (entryMeets e) (entriesMeet es) m) in
     let both = sums-showing e (e .shown) (shownSets es) in (
-      omega (arith, here .0, rest .0, ap (λ (t : Totals). t .shown) both),
-      omega (arith, here .1, rest .1, ap (λ (t : Totals). t .on) both, ap (λ (t : Totals). t .shown) both),
-      omega (arith, here .2, rest .2, ap (λ (t : Totals). t .identifiers) both),
+      omega (arith, here .0, rest .0, ap (λ (t : Totals). t .on) both, ap (λ (t : Totals). t .shown) both),
+      omega (arith, here .1, rest .1, ap (λ (t : Totals). t .identifiers) both),
     )
 
 small : (c : Entries) → entriesMeet c ≡ true → length c ≤ mostKeys → Small (sums (shownSets c))
+unfolding sums
 small c m h =
     let s = sums-most c m in
-    record { shown-small = omega (arith, s .0); on-small = omega (arith, s .0, s .1); identifiers-small = omega (arith, s .2) }
+    record { shown-small = omega (arith, shown-few c); on-small = omega (arith, shown-few c, s .0); identifiers-small = omega (arith, s .1) }
 
 -- of a table that meets the rules: 32 sets, no more on than shown, 4,096 identifiers
 pub totals-most : (c : Content) → meets c ≡ true
     → (totalsOf c .shown ≤ mostKeys) × (totalsOf c .on ≤ totalsOf c .shown) × (totalsOf c .identifiers ≤ mostKeys * mostIds)
-unfolding totalsOf
+unfolding totalsOf sums
 totals-most c m =
     let r = table-rules (c .sets) .0 m in
     let s = sums-most (c .sets) (r .entries) in
-    (omega (arith, r .short, s .0), s .1, omega (arith, r .short, s .2))
+    (omega (arith, r .short, shown-few (c .sets)), s .0, omega (arith, r .short, s .1))
 
 -- ---- a set more, exchanged, less
 
