@@ -26,10 +26,9 @@ from material import (DAB, DRM, FLAGS, RDS, faulty_block, largest_sheet, long_sh
 from scenes import EXAMPLE
 from script import LETTERS, Script
 from second.check import report_text
-from second.columns import csv_text, table_text
+from second.columns import OF_A_RECORDING, csv_text, table_text
 from second.figs import figs_text
 from second.listing import listing, table_of
-from second.spoil import WAYS
 from second.totals import totals_text
 
 HERE = os.path.dirname(os.path.abspath(__file__))
@@ -50,13 +49,13 @@ OTHER_REACH = (READ_REACH + ["b 9", "c 9", "a 0", "a 8", "a 9", "s 0", "s 8", "l
                + ["x %d done" % way for way in range(1, 17)])
 # Every way in which a block can change the figures; what leaves them.
 STAYS = ["b 1", "b 2", "b 3", "b 4", "b 5", "b 6", "f 7", "c 0", "c 7", "c 8", "c 11", "a 0", "a 8", "s 0", "s 8", "t"]
-TOTALS_REACH = (ALL_REACH[:ALL_REACH.index("?") + 1] + ["totals", "totals 9"] + ["x %d done" % way for way in WAYS]
+TOTALS_REACH = (ALL_REACH[:ALL_REACH.index("?") + 1] + ["totals", "totals 9"] + ["x %d done" % way for way in totals.WAYS]
                 + ["b 0 makes %s %s %s" % signs for signs in product("+=", "+=-", "+=-")]
                 + ["f 0 makes - - -", "f 0 makes - = -", "f 0 makes = = =", "l 0 makes + + +", "l 0 makes - - -",
                    "l 10 makes - - -", "e makes - - -"] + [what + " makes = = =" for what in STAYS])
 # A shown set that begins with each kind: with OE 1 any, of 16 and 24 bits.
-FIRST_SHOWN = ["[0-3]... (on|off) shown . D", "[4-7]... (on|off) shown 0 D", "[C-F]... (on|off) shown 0 D"]
-FIRST_SHOWN += ["[%s]... (on|off) shown . %s" % (key, letter) for key in ("8A", "9B") for letter in "DRM"]
+FIRST_SHOWN = ["[%s]... (on|off) #[0-9]+ shown %s D" % where for where in (("0-3", "."), ("4-7", "0"), ("C-F", "0"))]
+FIRST_SHOWN += ["[%s]... (on|off) #[0-9]+ shown . %s" % (key, letter) for key in ("8A", "9B") for letter in "DRM"]
 
 
 # examples.in: document 01, Examples
@@ -515,11 +514,12 @@ def all_files():
     for name, recording in recordings().items():
         files["listing/" + name + ".fib"] = recording
         files["listing/" + name + ".txt"] = "".join(line + "\n" for line in listing(recording)).encode("ascii")
-        files["listing/" + name + ".table"] = table_text(table_of(recording)).encode("ascii")
+        files["listing/" + name + ".confirmed"] = "".join(line + "\n" for line in listing(recording, True)).encode("ascii")
+        files["listing/" + name + ".table"] = table_text(table_of(recording), OF_A_RECORDING).encode("ascii")
         files["listing/" + name + ".figs"] = figs_text(recording).encode("ascii")
         files["listing/" + name + ".check"] = report_text(recording).encode("ascii")
         files["listing/" + name + ".totals"] = totals_text(recording).encode("ascii")
-        files["listing/" + name + ".csv"] = csv_text(table_of(recording)).encode("ascii")
+        files["listing/" + name + ".csv"] = csv_text(table_of(recording), OF_A_RECORDING).encode("ascii")
     return files, {name: script.seen for name, script in scripts.items()}
 
 

@@ -161,11 +161,12 @@ def by_hand(script):
     script.empty()
     script.block(cases.TUNED, 0, [1])
     script.block(cases.OTHER, 0, [1])
-    assert script.raw(b"t") == ["t 2", "0100 on shown - open 1 D6511 R6B11", "8100 on shown - open 1 R6511 R6B11"]
+    assert script.raw(b"t") == ["t 2 #2", "0100 on #0 shown - open 1 D6511 R6B11",
+                                "8100 on #0 shown - open 1 R6511 R6B11"]
     script.block(cases.TUNED, 0, [2])
     script.block(cases.OTHER, 0, [2])
-    assert script.do("c 100 2 2") == "c 0 0100 on 1 D6511 R6B11 kept"
-    assert script.do("c 8100 2 2") == "c 0 8100 on 1 R6511 R6B11 kept"
+    assert script.do("c 100 2 2") == "c 0 0100 on 1 #3 D6511 R6B11 kept"
+    assert script.do("c 8100 2 2") == "c 0 8100 on 1 #4 R6511 R6B11 kept"
     assert script.do("a 64") == "a 0 %s kept" % (cases.TUNED + cases.OTHER).hex().upper()
     assert script.do("s 28") == "s 0 02800201010200" + "91CA010191D601" + "808202010102" + "0191CA010191D601 kept"
     scenes.read_back(script)

@@ -2,6 +2,7 @@
 
 from collections import Counter
 
+from counting import Counting
 from second import stored
 from second.air import blocks_of
 from second.replay import Replay
@@ -20,6 +21,7 @@ class Script:
         self.lines = []
         self.answers = []
         self.seen = Counter()
+        self.counting = Counting()  # holds the numbers that are printed to the notes
         self.figures = None         # the totals when they were last asked for, None after 9
         self.since = []             # what was done since
 
@@ -31,14 +33,20 @@ class Script:
         self.lines.append(line)
         self.answers += answers
         self.seen["commands"] += 1
+        if answers and answers != ["?"]:
+            self.seen.update(self.counting.saw(line.decode("ascii"), answers))
         return answers
 
     def do(self, text):
         """A well-formed command; answers its first answer line."""
+        return self.done(text)[0]
+
+    def done(self, text):
+        """A well-formed command; answers its answer lines."""
         assert text.split(" ")[0] in self.commands, text
         answers = self.raw(text.encode("ascii"))
         self.count(text, answers)
-        return answers[0]
+        return answers
 
     def count(self, text, answers):
         answer = answers[0]

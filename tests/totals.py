@@ -16,9 +16,9 @@ from making import (block, block_of, damaged, fig_for, id_size, linking_fig, lon
 from material import (BAD_SHEETS, DAB, DRM, FLAGS, GOOD_SHEETS, ONE, RDS, faulty_block, long_sheet, many_sets,
                       random_figs, random_keys, sheet_bytes)
 from scenes import EXAMPLE
-from second.spoil import WAYS
 
 FIGURES = (22, 23, 24)          # the ways that make a figure wrong
+WAYS = (*range(1, 17), *FIGURES)
 
 # A good field that would switch 2004 off, and then what refuses the block.
 REFUSED = {2: damaged(state(0x2004, 0)), 3: block_of("03 06 20 04 00"), 4: block_of("03 06 20 04 02 06 20"),
@@ -80,7 +80,7 @@ def by_hand(script):
             (more(0x2004, 1, DRM, [1, 2, 3]), 3, (1, 1, 2)), (EXAMPLE, 2, (1, 1, 5)), (EXAMPLE, 2, (1, 1, 2))):
         script.block(data, 0, [note])
         is_now(script, *figures)
-    assert script.raw(b"t") == ["t 1", "2004 on shown 1 D44B1 R44B1 open 1 D44B1 R44B1"]
+    assert script.raw(b"t") == ["t 1 #9", "2004 on #9 shown 1 D44B1 R44B1 open 1 D44B1 R44B1"]
     script.expect("f 2004", 0)
     is_now(script, 0, 0, 0)
     script.empty()                          # LSN 001 with eight codes, seven regional sets with two: open, then shown
@@ -334,7 +334,7 @@ def forgotten(script):
             ("3003", 0, (0, 0, 0)), ("3003", 7, (0, 0, 0))):
         script.expect("f " + text, outcome)
         is_now(script, *figures)
-    assert script.raw(b"t") == ["t 0"]
+    assert script.raw(b"t") == ["t 0 #12"]
     shown(script, 0x2001, 1, 2)             # forgotten while its list is open: nothing is left of it
     script.expect("f 2001", 0)
     is_now(script, 0, 0, 0)
@@ -551,7 +551,7 @@ NOT_COMMANDS = [
     "totals 3", "totals ", " totals", "totals totals", "totals\t", "totals\r", "totals\0", "totals 0 0 0", "totals?",
     "totalss", "total", "tot", "to", "tt", "t totals", "Totals", "TOTALS", "totalS", "totals\x85", "t0tals", "totals  ",
     "e totals", "b totals", "xtotals", "x totals", "totals" * 11,
-    "x 17", "x 18", "x 19", "x 20", "x 21", "x 25", "x 26", "x 00000000022", "x 22 ", "x  22", "x 22 1", "x +22",
+    "x 17", "x 18", "x 19", "x 20", "x 21", "x 27", "x 28", "x 00000000022", "x 22 ", "x  22", "x 22 1", "x +22",
     "x 22x", "x 16h", "x 220", "x 4294967318"]
 
 
@@ -565,7 +565,7 @@ def grammar(script):
     assert script.raw(b"") == []
     is_now(script, 1, 1, 2)
     assert script.do("x 0000000024") == "x"
-    for text in NOT_COMMANDS[:3] + ["x 17", "x 21", "x 25"]:
+    for text in NOT_COMMANDS[:3] + ["x 17", "x 21", "x 27"]:
         assert script.raw(text.encode("utf-8")) == ["?"], text
     is_wrong(script)
     script.do("u")
@@ -578,7 +578,7 @@ def grammar(script):
 def counted(lines):
     """The figures of a printed table: the lines with a set, those of them that say on, the words of identifiers."""
     rows = [line.split(" ") for line in lines[1:] if " shown - " not in line]
-    return len(rows), sum(row[1] == "on" for row in rows), sum(row.index("open") - 4 for row in rows)
+    return len(rows), sum(row[1] == "on" for row in rows), sum(row.index("open") - 5 for row in rows)
 
 
 def ask(script):

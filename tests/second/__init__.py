@@ -12,5 +12,6 @@ beside its section of document 01:
 columns.py, figs.py, check.py and totals.py print what `linkage list --table`,
 `list --csv`, `figs`, `check` and `totals` print.  Places are those of document
 02, R-1; what begins a set whose OE is 1 is R-3's (field.py, first_is_service);
-the totals are R-7's (table.py, totals).
+the totals are R-7's (table.py, totals); the count of blocks and the numbers of
+sets are R-9's (table.py, count_block, start).
 """

@@ -11,7 +11,7 @@ if __name__ == "__main__":
     sys.path.insert(0, os.path.dirname(os.path.dirname(os.path.abspath(__file__))))
 
 from second.block import BLOCK_SIZE, whole_blocks
-from second.table import SKIPPED_FULL, read_block
+from second.table import SKIPPED_FULL, Table, read_block
 
 MEANS = {2: "check fails", 3: "wrong FIG", 4: "wrong field", 5: "wrong value", 6: "empty start"}
 
@@ -24,7 +24,7 @@ def refused_line(number, outcome, place):
 
 def report(recording):
     """A line for each refused block, numbered from 1; the count of blocks; then what is not 0."""
-    table, lines, without_room = {}, [], 0
+    table, lines, without_room = Table(), [], 0
     blocks = whole_blocks(recording)
     for number, block in enumerate(blocks, 1):
         outcome, place, notes = read_block(table, block)

@@ -1,6 +1,9 @@
 """The listing program: blocks on standard input, the shown sets on standard output.
 
 Document 01, Examples, 16.      python3 tests/second/listing.py < recording.fib
+
+With --confirmed it prints the count of blocks and each set's number as well
+(document 02, R-9).
 """
 
 import os
@@ -12,7 +15,7 @@ if __name__ == "__main__":
 
 from second import field as linking
 from second.block import BLOCK_SIZE, whole_blocks
-from second.table import read_block, shown_sets
+from second.table import Table, read_block, shown_sets
 
 LETTER = {linking.DAB: "D", linking.RDS: "R", linking.DRM: "M"}
 
@@ -38,30 +41,38 @@ def dead_link_texts(ids):
             if ids.named & linking.NAME[kind] and not ids.has_kind(kind)]
 
 
-def set_line(key, entry):
+def number_text(number):
+    """The number of a block, wherever one is printed among other words."""
+    return "#%d" % number
+
+
+def set_line(key, entry, confirmed=False):
     ids = entry.shown
-    words = [key_text(key), on_text(entry.on), "ids", str(len(ids.pairs))]
-    return " ".join(words + id_texts(key, ids.pairs) + dead_link_texts(ids))
+    words = [key_text(key), on_text(entry.on)] + ([number_text(entry.confirmed)] if confirmed else [])
+    words += ["ids", str(len(ids.pairs))] + id_texts(key, ids.pairs) + dead_link_texts(ids)
+    return " ".join(words)
 
 
 def table_of(recording):
     """The table that the whole blocks of a recording leave."""
-    table = {}
+    table = Table()
     for block in whole_blocks(recording):
         read_block(table, block)
     return table
 
 
-def listing(recording):
+def listing(recording, confirmed=False):
     """The lines for a recording; what is left after the whole blocks is only counted."""
-    shown = shown_sets(table_of(recording))
-    lines = ["sets %d" % len(shown)] + [set_line(key, entry) for key, entry in shown]
+    table = table_of(recording)
+    shown = shown_sets(table)
+    lines = ["sets %d" % len(shown) + (" blocks %d" % table.blocks if confirmed else "")]
+    lines += [set_line(key, entry, confirmed) for key, entry in shown]
     rest = len(recording) % BLOCK_SIZE
     return lines + ["tail %d" % rest] if rest else lines
 
 
 def main():
-    lines = listing(sys.stdin.buffer.read())
+    lines = listing(sys.stdin.buffer.read(), sys.argv[1:] == ["--confirmed"])
     sys.stdout.buffer.write("".join(line + "\n" for line in lines).encode("ascii"))
 
 

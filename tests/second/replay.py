@@ -10,6 +10,7 @@ before everything else (document 01, Numbered outcomes).
 import os
 import re
 import sys
+from dataclasses import replace
 
 if __name__ == "__main__":
     sys.dont_write_bytecode = True
@@ -17,8 +18,8 @@ if __name__ == "__main__":
 
 from second import air, sheet, spoil, stored
 from second import table as tables
-from second.listing import id_texts, key_text, on_text
-from second.table import shown_sets
+from second.listing import id_texts, key_text, number_text, on_text
+from second.table import LAST_BLOCK, Table, shown_sets
 
 LONGEST_LINE = 65536        # without its LF
 MOST_BLOCK_BYTES = 64
@@ -61,13 +62,13 @@ class Replay:
     """The state of a script: the present table, and the one from before the last spoiling."""
 
     def __init__(self):
-        self.stored = stored.store({})
+        self.stored = stored.store(Table())
         self.remembered = None
 
     # Each command answers its lines, or None where a number is over its limit.
 
     def empty(self):
-        self.stored = stored.store({})
+        self.stored = stored.store(Table())
         return ["e"]
 
     def block(self, digits):
@@ -102,7 +103,7 @@ class Replay:
         if outcome == 0:
             entry = table[key]
             length = len(entry.shown.pairs)
-            words += [key_text(key), on_text(entry.on), str(entry.shown.named)]
+            words += [key_text(key), on_text(entry.on), str(entry.shown.named), number_text(entry.confirmed)]
             words += id_texts(key, zip(kinds[:length], numbers[:length]))
         both_kept = {kept_word(numbers[length:], number_filling), kept_word(kinds[length:], FILLING)} == {"kept"}
         return [" ".join(words + ["kept" if both_kept else "changed"])]
@@ -129,17 +130,24 @@ class Replay:
         table = stored.fetch(self.stored)
         if table is None:
             return ["t 9"]
-        lines = ["t %d" % len(table)]
+        lines = ["t %d %s" % (len(table), number_text(table.blocks))]
         for key in sorted(table):
             entry = table[key]
-            words = [key_text(key), on_text(entry.on), "shown"] + list_words(key, entry.shown)
-            lines.append(" ".join(words + ["open"] + list_words(key, entry.open)))
+            words = [key_text(key), on_text(entry.on), number_text(entry.confirmed), "shown"]
+            words += list_words(key, entry.shown) + ["open"] + list_words(key, entry.open)
+            lines.append(" ".join(words))
         return lines
 
     def print_totals(self):
         if stored.fetch(self.stored) is None:
             return ["totals 9"]
         return ["totals %d %d %d" % (self.stored.shown, self.stored.on, self.stored.identifiers)]
+
+    def set_count(self, number):
+        if int(number) > LAST_BLOCK:
+            return None
+        self.stored = replace(self.stored, blocks=int(number))      # what is remembered stays
+        return ["count"]
 
     def spoil(self, way):
         if int(way) not in spoil.WAYS:
@@ -167,6 +175,7 @@ class Replay:
         ("x " + DECIMAL, spoil),
         ("u", unspoil),
         ("totals", print_totals),
+        ("count " + DECIMAL, set_count),
     )]
 
     def answer(self, line):

@@ -1,9 +1,10 @@
 """The stored sheet: writing and loading.
 
-Document 01, The stored sheet.
+Document 01, The stored sheet.  Neither the count of blocks nor a set's number
+is in it: a loaded table has counted no block (document 02, R-9).
 """
 
-from second.table import Entry, IdList, meets_rules, shown_sets
+from second.table import Entry, IdList, Table, meets_rules, shown_sets
 
 
 def number_bytes(number):
@@ -51,7 +52,7 @@ def numbers_in(sheet):
 def table_in(sheet):
     """What the sheet says, as a table, with no rule tested; StopIteration where it ends too soon."""
     numbers = numbers_in(sheet)
-    table = {}
+    table = Table()
     for _ in range(next(numbers)):
         key, on, named, length = (next(numbers), next(numbers), next(numbers), next(numbers))
         pairs = [(next(numbers), next(numbers)) for _ in range(length)]
@@ -64,7 +65,7 @@ def load(sheet):
     try:
         table = table_in(sheet)
     except StopIteration:
-        return 10, {}
+        return 10, Table()
     if not meets_rules(table) or sheet_of(shown_sets(table)) != bytes(sheet):
-        return 10, {}
+        return 10, Table()
     return 0, table

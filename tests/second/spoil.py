@@ -24,16 +24,20 @@ assignment given here on the stored form of stored.py, and nothing else:
      22   nothing                                  the figure of shown sets is one higher
      23   nothing                                  the figure of those that are on is one higher
      24   nothing                                  the figure of their identifiers is one higher
+     25   blocks below 2^32 - 1,
+          first entry with a shown set             its number = blocks + 1
+     26   first of the held without a shown set    its number = 1
 
+Held are the entries below the count, all of them where that is above 32.
 Where the need is not met nothing is spoiled.  No other number is a way.
 """
 
 import copy
 
 from second.field import PD, first_is_service, width
-from second.table import LONGEST, MOST_KEYS
+from second.table import LAST_BLOCK, LONGEST, MOST_KEYS
 
-WAYS = (*range(1, 17), 22, 23, 24)
+WAYS = (*range(1, 17), *range(22, 27))
 
 
 def is_there(ids):
@@ -195,11 +199,28 @@ def one_identifier_more(table):
     return True
 
 
+def number_above_count(table):
+    entry = first(table, lambda e: is_there(e.shown))
+    if entry is None or table.blocks == LAST_BLOCK:
+        return False
+    entry.confirmed = table.blocks + 1
+    return True
+
+
+def number_without_set(table):
+    held = table.entries[:table.count]
+    entry = next((entry for entry in held if not is_there(entry.shown)), None)
+    if entry is None:
+        return False
+    entry.confirmed = 1
+    return True
+
+
 SPOIL = dict(zip(WAYS, (
     swap_entries, too_many_entries, key_twice, key_too_large, key_without_lsn, unused_entry_on,
     list_too_long, past_the_end, shown_pair_twice, first_is_rds, number_too_large, kind_two,
     present_not_named, named_four, data_with_name, open_pair_twice,
-    one_shown_more, one_on_more, one_identifier_more)))
+    one_shown_more, one_on_more, one_identifier_more, number_above_count, number_without_set)))
 
 
 def spoiled(table, way):

@@ -7,12 +7,13 @@ named kinds.  Keys ascend from entry 0 without gaps; an unused entry, a place
 past a list's length and everything in an absent list is zero.
 
 Document 02, R-7: three figures beside them, which are the totals of the sets
-that the table shows; any other figure makes the form a wrong one.
+that the table shows; any other figure makes the form a wrong one.  R-9: the
+count of blocks beside them, and in each entry the number of a block.
 """
 
 from dataclasses import dataclass, field
 
-from second.table import Entry, IdList, LONGEST, MOST_KEYS, meets_rules, totals
+from second.table import Entry, IdList, LONGEST, MOST_KEYS, Table, meets_rules, totals
 
 
 def zeros():
@@ -33,6 +34,7 @@ class StoredEntry:
     on: bool = False
     shown: StoredList = field(default_factory=StoredList)
     open: StoredList = field(default_factory=StoredList)
+    confirmed: int = 0          # the block at which the set was last shown
 
 
 @dataclass
@@ -42,6 +44,7 @@ class StoredTable:
     shown: int = 0              # sets
     on: int = 0                 # sets that are shown and on
     identifiers: int = 0        # in the sets that are shown
+    blocks: int = 0             # counted so far
 
 
 def store_list(ids):
@@ -58,10 +61,11 @@ def store_list(ids):
 def store(table):
     """The stored form of a table that meets the rules."""
     shown, on, identifiers = totals(table)
-    stored = StoredTable(count=len(table), shown=shown, on=on, identifiers=identifiers)
+    stored = StoredTable(count=len(table), shown=shown, on=on, identifiers=identifiers, blocks=table.blocks)
     for place, key in enumerate(sorted(table)):
         entry = table[key]
-        stored.entries[place] = StoredEntry(key, entry.on, store_list(entry.shown), store_list(entry.open))
+        stored.entries[place] = StoredEntry(key, entry.on, store_list(entry.shown), store_list(entry.open),
+                                            entry.confirmed)
     return stored
 
 
@@ -81,11 +85,11 @@ def fetch(stored):
     """
     if stored.count > MOST_KEYS:
         return None
-    table = {}
+    table = Table(blocks=stored.blocks)
     for entry in stored.entries[:stored.count]:
         if max(entry.shown.length, entry.open.length) > LONGEST:
             return None
-        table[entry.key] = Entry(entry.on, fetch_list(entry.shown), fetch_list(entry.open))
+        table[entry.key] = Entry(entry.on, fetch_list(entry.shown), fetch_list(entry.open), entry.confirmed)
     if not meets_rules(table) or store(table) != stored:
         return None
     return table

@@ -1,12 +1,14 @@
 """The table of linkage sets: collecting, forgetting, copying out, and its rules.
 
-Document 01, Collecting.  A table is a dictionary from held keys to entries.
+Document 01, Collecting.  A table is a dictionary from held keys to entries,
+with a count of the blocks read into it (document 02, R-9).
 """
 
 from second import field as linking
 
 MOST_KEYS = 32
 LONGEST = 128
+LAST_BLOCK = (1 << 32) - 1      # where the count of blocks stops
 
 OPENED, SHOWN_AND_OPENED, ADDED, SKIPPED_NO_LIST = 1, 2, 3, 4
 SKIPPED_FULL, DROPPED, STATE_ONLY, UNKNOWN_KEY = 5, 6, 7, 8
@@ -35,15 +37,37 @@ class IdList:
 
 
 class Entry:
-    """What is kept of one held key: on or off, the shown set, the open list (None where there is none)."""
+    """What is kept of one held key: on or off, the shown set, the open list (None where there is none).
 
-    def __init__(self, on=False, shown=None, open=None):
+    `confirmed` is the number of the block at which the set was last shown: 0
+    where none is shown, and where none was since the table was loaded.
+    """
+
+    def __init__(self, on=False, shown=None, open=None, confirmed=0):
         self.on = on
         self.shown = shown
         self.open = open
+        self.confirmed = confirmed
+
+    def parts(self):
+        return self.on, self.shown, self.open, self.confirmed
 
     def __eq__(self, other):
-        return isinstance(other, Entry) and (self.on, self.shown, self.open) == (other.on, other.shown, other.open)
+        return isinstance(other, Entry) and self.parts() == other.parts()
+
+
+class Table(dict):
+    """Held keys with their entries, and how many blocks were counted; the empty table has counted none."""
+
+    def __init__(self, entries=(), blocks=0):
+        super().__init__(entries)
+        self.blocks = blocks
+
+    def __eq__(self, other):
+        return isinstance(other, Table) and dict.__eq__(self, other) and self.blocks == other.blocks
+
+    def __ne__(self, other):
+        return not self == other
 
 
 def shown_sets(table):
@@ -77,7 +101,7 @@ def start(table, field):
     entry = table[field.key]
     note = OPENED
     if entry.open is not None:
-        entry.shown = entry.open
+        entry.shown, entry.confirmed = entry.open, table.blocks
         note = SHOWN_AND_OPENED
     entry.open = IdList().extended(field)
     return note
@@ -115,16 +139,23 @@ def drop_open_lists(table):
         entry.open = None
 
 
+def count_block(table):
+    """The present block gets its number: one more than the last, until the numbers end."""
+    table.blocks = min(table.blocks + 1, LAST_BLOCK)
+
+
 def read_block(table, block):
-    """Reads one block into the table; answers (outcome, place, notes)."""
+    """Reads one block into the table; answers (outcome, place, notes).  A refused one is counted too, but for 1."""
     outcome, place, fields = linking.examine(block)
+    if outcome != 1:
+        count_block(table)
     if outcome >= 2:
         drop_open_lists(table)
     return outcome, place, [collect(table, field) for field in fields]
 
 
 def forget(table, key):
-    """Forgets a key: 0, or 7 if it is not held."""
+    """Forgets a key: 0, or 7 if it is not held.  Blocks stay counted."""
     if key not in table:
         return 7
     del table[key]
@@ -134,7 +165,7 @@ def forget(table, key):
 def copy_out(table, key, numbers, kinds):
     """Copies the shown set of a key into the two lent buffers: outcome 0, 7, 11 or 8.
 
-    On, named kinds and length of the set stay with the entry.
+    On, named kinds, length and number of the set stay with the entry.
     """
     if key not in table:
         return 7
@@ -170,12 +201,17 @@ def list_meets_rules(key, ids):
     return not (key & linking.PD and ids.named)
 
 
+def number_meets_rules(table, entry):
+    """No number above the table's own count, and none without a shown set."""
+    return entry.confirmed <= (0 if entry.shown is None else table.blocks)
+
+
 def meets_rules(table):
-    """The table rules of document 01 (that keys differ is in the nature of a dictionary)."""
+    """The table rules of document 01, with R-9's (that keys differ is in the nature of a dictionary)."""
     if len(table) > MOST_KEYS:
         return False
     for key, entry in table.items():
-        if key >= 65536 or key & linking.LSN == 0:
+        if key >= 65536 or key & linking.LSN == 0 or not number_meets_rules(table, entry):
             return False
         for ids in (entry.shown, entry.open):
             if ids is not None and not list_meets_rules(key, ids):

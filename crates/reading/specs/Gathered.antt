@@ -39,9 +39,9 @@ gathered ns ks rows = rowLists ns ks (rows .lens) (rows .names)
 unfoldable pub noRows : Rows
 noRows = record { lens = replicate mostKeys 0; names = replicate mostKeys 0; changed = replicate mostKeys true }
 
--- sets with these states and the lists of these rows
-unfoldable pub setsOf : Sets → List Bool → List ℕ → List ℕ → Rows → List ℕ → List ℕ → Rows → Sets
-setsOf t on sn sk s dn dk d = withLists t on (gathered sn sk s) (gathered dn dk d)
+-- sets with these states and numbers and the lists of these rows
+unfoldable pub setsOf : Sets → List Bool → List ℕ → List ℕ → List ℕ → Rows → List ℕ → List ℕ → Rows → Sets
+setsOf t on confirmed sn sk s dn dk d = withLists t on confirmed (gathered sn sk s) (gathered dn dk d)
 
 -- the first 128 places of a list, in the stored form
 unfoldable pub packed : IdList → IdList

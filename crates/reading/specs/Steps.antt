@@ -45,8 +45,12 @@ steppedAs r = record { shows = isShowing (r .1); draft = storeMaybe (r .0 .draft
 -- a field that was found in a body does to the stored list of an entry what the rules say
 unfoldable pub HeldStep : List ℕ → Field → IdList → ListStep → Type 0
 HeldStep body f draft r =
-    (e : Held) (s : Bool) (place next : ℕ) → fieldStepAt body place ≡ Found f next → (f .qualifier ≡ 2 → ⊥) → ifThere (e .key) (e .draft) ≡ true
-    → draft ≡ storeMaybe (e .draft) → r ≡ steppedAs (onHeld linkage e s tt (actOf (meaning body f)))
+    (e : Held) (s : Bool) (block place next : ℕ) → fieldStepAt body place ≡ Found f next → (f .qualifier ≡ 2 → ⊥) → ifThere (e .key) (e .draft) ≡ true
+    → draft ≡ storeMaybe (e .draft) → r ≡ steppedAs (onHeld linkage e s block (actOf (meaning body f)))
+
+-- the number of a held key's set after a field, by its note: that of the present block, where the list that was open is shown
+unfoldable pub confirmedBy : Note → ℕ → ℕ → ℕ
+confirmedBy n before block = cond (isShowing n) block before
 
 -- a field of a key that is not held opens a list: a start, and room for one key more
 unfoldable pub opensIn : Field → ℕ → Bool

@@ -3,16 +3,18 @@
 // What a block does is readBlock of crate rules, on the table's stored form.
 
 ghost use mathlib.Core.Path.{_≡_};
+ghost use mathlib.Core.Bool.{not};
 ghost use Prim.Native.Nat.{_+_, _<_};
 ghost use lib.ListN.{length};
 ghost use lib.Dec.{eqb};
 ghost use Rattle.rules.specs.Block.{bit};
+ghost use Rattle.rules.specs.Collecting.{nextBlock};
 ghost use Rattle.rules.specs.Outcomes.{readBlock, isFull};
 ghost use Rattle.table.specs.Stored.{Stored, Given};
 ghost use Rattle.sets.specs.Stored.{openedSets};
 ghost use Rattle.lists.specs.Grown.{withField};
 ghost use Rattle.lists.specs.Stored.{emptyList};
-ghost use Rattle.reading.specs.Steps.{opensIn, unheldNote, noNotes, notedAt, isDone};
+ghost use Rattle.reading.specs.Steps.{opensIn, unheldNote, confirmedBy, noNotes, notedAt, isDone};
 ghost use Rattle.reading.specs.Gathered.{places, setsOf, Unchanged};
 ghost use Rattle.reading.specs.Runs.{noReply, replyTo, replyWith, Runs, runAs, refusedTable, recordedAs, unrecorded};
 
@@ -118,6 +120,37 @@ fn with_start(full: usize, note: Note) -> usize
     full
 }
 
+// How many blocks were refused, with one more of this outcome.
+fn with_refusal(refused: usize, outcome: Outcome) -> usize
+    requires { ⌜ refused < 18446744073709551615 ⌝ }
+    ensures { λ r. ⌜ r ≡ refused + bit (not (isDone outcome)) ⌝ }
+{
+    if is_done(outcome) {
+        return refused;
+    }
+    refused + 1
+}
+
+// The number of the block after so many: blocks are numbered from 1, and the number stops.
+fn next_block(blocks: u32) -> u32
+    ensures { λ r. ⌜ r ≡ nextBlock blocks ⌝ }
+{
+    if blocks < Table::BLOCKS {
+        return blocks + 1;
+    }
+    Table::BLOCKS
+}
+
+// The number of a held key's set after a field with this note in the block of this number: at a showing, the block's.
+fn confirmed_by(note: Note, before: u32, block: u32) -> u32
+    ensures { λ r. ⌜ r ≡ confirmedBy note before block ⌝ }
+{
+    match note {
+        Note::ShownAndOpened => block,
+        _ => before,
+    }
+}
+
 // The answer to a block: its outcome, the place where a refused block broke and else 0, one note a field where it is taken, and
 // the table then.
 pub struct Answer {
@@ -127,11 +160,12 @@ pub struct Answer {
     pub table: Table,
 }
 
-// What is said of the present block, so far; and how many starts found no room, in all blocks.
+// What is said of the present block, so far; and of all blocks how many starts found no room, and how many were refused.
 struct Reply {
     outcome: Outcome,
     place: usize,
     full: usize,
+    refused: usize,
     notes: Notes,
 }
 
@@ -144,18 +178,21 @@ impl Reply {
             outcome: Outcome::Done,
             place: 0,
             full: 0,
+            refused: 0,
             notes: Notes::none(),
         }
     }
 
     // To a further block, with this outcome at this place, before its fields.
     fn to(self, outcome: Outcome, place: usize) -> Self
+        requires { ⌜ self .refused < 18446744073709551615 ⌝ }
         ensures { λ r. ⌜ r ≡ replyTo self outcome place ⌝ }
     {
         Reply {
             outcome,
             place,
             full: self.full,
+            refused: with_refusal(self.refused, outcome),
             notes: Notes::none(),
         }
     }
@@ -171,6 +208,7 @@ impl Reply {
             outcome,
             place: self.place,
             full: with_start(self.full, note),
+            refused: self.refused,
             notes: notes.noted(at, note),
         }
     }
@@ -200,6 +238,7 @@ struct Run {
 fn sets_of<'a>(
     laid: Sets,
     on: [bool; Table::KEYS],
+    confirmed: [u32; Table::KEYS],
     sn: &'a [u32],
     sk: &'a [u8],
     shown: Rows,
@@ -209,7 +248,7 @@ fn sets_of<'a>(
 ) -> Sets
     requires { ⌜ (length (now sn) ≡ places) × (length (now sk) ≡ places) × (length (now dn) ≡ places) × (length (now dk) ≡ places)
         × Unchanged (laid .shown) (now sn) (now sk) shown × Unchanged (laid .draft) (now dn) (now dk) draft ⌝ }
-    ensures { λ r. ⌜ r ≡ setsOf laid on (now (sn .entry)) (now (sk .entry)) shown (now (dn .entry)) (now (dk .entry)) draft ⌝ }
+    ensures { λ r. ⌜ r ≡ setsOf laid on confirmed (now (sn .entry)) (now (sk .entry)) shown (now (dn .entry)) (now (dk .entry)) draft ⌝ }
 {
     let lists = laid.shown;
     let set_lists = rows::gather(lists, sn, sk, shown);
@@ -217,6 +256,7 @@ fn sets_of<'a>(
     let open_lists = rows::gather(lists, dn, dk, draft);
     let mut sets = laid;
     sets.on = on;
+    sets.confirmed = confirmed;
     sets.shown = set_lists;
     sets.draft = open_lists;
     sets
@@ -249,6 +289,8 @@ fn run_blocks(table: Table, bytes: &[u8]) -> Run
     let lists = laid.draft;
     let mut draft = rows::scatter(lists, &mut dn, &mut dk);
     let mut on = laid.on;
+    let mut confirmed = laid.confirmed;
+    let mut blocks = table.blocks;
     let closed = Rows::none();
     let mut reply = Reply::none();
     let mut spots = block::no_spots();
@@ -279,6 +321,7 @@ fn run_blocks(table: Table, bytes: &[u8]) -> Run
                 );
                 let note = held.note;
                 totals = totals.exchanged(shown.lens[p], on[p], held.shown.len, f.la == 1);
+                confirmed[p] = confirmed_by(note, confirmed[p], blocks);
                 shown.lens[p] = held.shown.len;
                 shown.names[p] = held.shown.named;
                 shown.changed[p] = true;
@@ -289,9 +332,10 @@ fn run_blocks(table: Table, bytes: &[u8]) -> Run
                 reply = reply.noted(i, note);
                 i += 1;
             } else if opens(f, count) {
-                let now = sets_of(laid, on, &sn, &sk, shown, &dn, &dk, draft);
+                let now = sets_of(laid, on, confirmed, &sn, &sk, shown, &dn, &dk, draft);
                 laid = opened(now, p, key, &bytes[start..end], f);
                 on = laid.on;
+                confirmed = laid.confirmed;
                 let lists = laid.shown;
                 shown = rows::scatter(lists, &mut sn, &mut sk);
                 let lists = laid.draft;
@@ -304,14 +348,15 @@ fn run_blocks(table: Table, bytes: &[u8]) -> Run
             }
         } else {
             if bytes.len() - at < 32 {
-                let left = sets_of(laid, on, &sn, &sk, shown, &dn, &dk, draft);
+                let left = sets_of(laid, on, confirmed, &sn, &sk, shown, &dn, &dk, draft);
                 return Run {
                     reply,
-                    table: Table::of(left, totals),
+                    table: Table::of(left, totals, blocks),
                 };
             }
             from = at;
             at += 32;
+            blocks = next_block(blocks);
             let judged = block::judge(&bytes[from..at]);
             let outcome = judged.outcome;
             reply = reply.to(outcome, judged.place);
@@ -350,11 +395,13 @@ pub fn read_block(table: Table, fib: &[u8]) -> Answer
     reply.answer(left)
 }
 
-// What reading a whole recording leaves: 0 or 9, how many bytes were left over, how many starts found no room, and the table.
+// What reading a whole recording leaves: 0 or 9, how many bytes were left over, how many starts found no room, how many blocks were
+// refused, and the table.
 pub struct Recorded {
     pub outcome: Outcome,
     pub rest: usize,
     pub full: usize,
+    pub refused: usize,
     pub table: Table,
 }
 
@@ -367,6 +414,7 @@ pub fn read_recording(table: Table, bytes: &[u8]) -> Recorded
             outcome: Outcome::WrongTable,
             rest: 0,
             full: 0,
+            refused: 0,
             table,
         };
     }
@@ -376,6 +424,7 @@ pub fn read_recording(table: Table, bytes: &[u8]) -> Recorded
         outcome: Outcome::Done,
         rest: bytes.len() % 32,
         full: run.reply.full,
+        refused: run.reply.refused,
         table: left,
     }
 }

@@ -1,13 +1,12 @@
 -- The report of a recording (document 02, R-1): a line for each refused block, in order, and then the counts, as bytes.
 use Prim.Native.Nat.{ℕ, zero, suc, _+_, _/_}
-use mathlib.Core.Bool.{Bool, true, false, cond}
+use mathlib.Core.Bool.{cond}
 use mathlib.Core.List.{List, [], _∷_, _++_}
 use lib.ListN.{length, take, drop}
 use lib.Dec.{eqb}
 use Rattle.rules.specs.declared.Outcome.{Outcome}
-use Rattle.rules.specs.Block.{bit}
 use Rattle.rules.specs.Collecting.{nothing}
-use Rattle.rules.specs.Outcomes.{numberOf, Verdict, taken, refused, noBlock, verdict, leftOver, roomless}
+use Rattle.rules.specs.Outcomes.{numberOf, Verdict, taken, refused, noBlock, verdict, refusals, leftOver, roomless}
 use Rattle.out.specs.Text.{decimal}
 
 -- ---- the line of a refused block: `block 17: 3 at byte 12, wrong FIG`, `block 18: 2, check fails`
@@ -44,17 +43,6 @@ unfoldable pub linesOf : ℕ → ℕ → List ℕ → List ℕ
 linesOf zero before bytes = []
 linesOf (suc n) before bytes = blockLine (before + 1) (verdict (take 32 bytes)) ++ linesOf n (before + 1) (drop 32 bytes)
 
--- a block is refused
-unfoldable pub isRefused : Verdict → Bool
-isRefused (taken fs) = false
-isRefused (refused o place) = true
-isRefused noBlock = false
-
--- how many of the first n blocks are
-unfoldable pub refusedOf : ℕ → List ℕ → ℕ
-refusedOf zero bytes = 0
-refusedOf (suc n) bytes = bit (isRefused (verdict (take 32 bytes))) + refusedOf n (drop 32 bytes)
-
 -- ---- the counts
 
 -- a line that is some words and a count, where the count is not 0
@@ -74,4 +62,4 @@ countsText blocks refusals full rest =
 unfoldable pub report : List ℕ → List ℕ
 report bytes =
     linesOf (length bytes / 32) 0 bytes
-    ++ countsText (length bytes / 32) (refusedOf (length bytes / 32) bytes) (roomless nothing bytes) (leftOver bytes)
+    ++ countsText (length bytes / 32) (refusals bytes) (roomless nothing bytes) (leftOver bytes)

@@ -11,10 +11,10 @@ use lib.Dec.{leb, ltb}
 use borrow.Author.Tests.{eqb-true, eq-eqb}
 use Rattle.rules.specs.Field.{Field, Pair, dab, firstKind, pairsOf}
 use Rattle.rules.specs.Family.{Rules, entryWith, closed, steps, maybeMeets, heldMeets, allMeet, goesUp, tableMeets}
-use Rattle.rules.specs.Collecting.{linkage, IdSet, Held, Entries, Content, brings, actOf, said, isKey, keyWidth, oeOf, beginsRight, notEmpty, allDiffer, pairsMeet, namesMeet, setMeets, setsMeet, meets, Shown, shownSets, mostKeys, mostIds}
+use Rattle.rules.specs.Collecting.{linkage, IdSet, Held, Entries, Content, brings, actOf, said, isKey, keyWidth, oeOf, beginsRight, notEmpty, allDiffer, pairsMeet, namesMeet, setMeets, setsMeet, numberMeets, numbersWithin, nextBlock, meets, Shown, shownSets, mostKeys, mostIds, mostBlocks}
 use Rattle.rules.specs.Outcomes.{Verdict, taken, refused, noBlock, verdict, Answer, answerTo, readBlock, readBlocks, readRecording}
 use Rattle.rules.specs.Before.{pairsBefore, bringsBefore, saidBefore, answerBefore, blockBefore, blocksBefore, recordingBefore, beginsDab, setBefore, metBefore}
-use Rattle.rules.proofs.Basics.{and-left, and-right, and-both, and-three, and-six, Every, every-imp, every-take, every-drop}
+use Rattle.rules.proofs.Basics.{and-left, and-right, and-both, and-three, and-four, and-six, Every, every-imp, every-take, every-drop}
 use Rattle.rules.proofs.FamilyLaws.{Keeps, keeps-key, every-steps, every-drop-open}
 use Rattle.rules.proofs.TableRules.{lawful, begins-dab, dab-begins, set-rules, each-shown}
 use Rattle.rules.proofs.Taken.{Bytes, GoodField, taken-good}
@@ -27,13 +27,13 @@ abbrev pub Tuned : Field → Type 0
 Tuned f = f .oe ≡ 0
 
 -- it says what it said
-pub said-before : (f : Field) → Tuned f → said f ≡ saidBefore f
+pub said-before : (n : ℕ) (f : Field) → Tuned f → said n f ≡ saidBefore n f
 unfolding said saidBefore actOf brings bringsBefore pairsOf pairsBefore firstKind
-said-before f z = rw z
+said-before n f z = rw z
 
-pub all-said-before : (fs : List Field) → Every Tuned fs → map said fs ≡ map saidBefore fs
-all-said-before [] h = refl
-all-said-before (f ∷ fs) h = rw (said-before f (h .0), all-said-before fs (h .1))
+pub all-said-before : (n : ℕ) (fs : List Field) → Every Tuned fs → map (said n) fs ≡ map (saidBefore n) fs
+all-said-before n [] h = refl
+all-said-before n (f ∷ fs) h = rw (said-before n f (h .0), all-said-before n fs (h .1))
 
 -- of a block that is taken, every field does
 abbrev pub TunedIn : Verdict → Type 0
@@ -43,7 +43,7 @@ TunedIn noBlock = Unit {0}
 
 answer-before : (t : Content) (v : Verdict) → TunedIn v → answerTo t v ≡ answerBefore t v
 unfolding answerTo answerBefore
-answer-before t (taken fs) h = rw (all-said-before fs h)
+answer-before t (taken fs) h = rw (all-said-before (nextBlock (t .blocks)) fs h)
 answer-before t (refused o p) h = refl
 answer-before t noBlock h = refl
 
@@ -71,7 +71,7 @@ recording-before t bytes h = blocks-before (length bytes / 32) t bytes h
 
 -- the rules of linkage with this test of a list
 abbrev rulesWith : (ℕ → IdSet → Bool) → Rules linkage
-rulesWith test = record { keyMeets = isKey; listMeets = test; stampMeets = λ shown stamp. true; begins = ltb 0 }
+rulesWith test = record { keyMeets = isKey; listMeets = test; stampMeets = numberMeets; begins = ltb 0 }
 
 -- a key's lists that pass one test pass the other
 abbrev Passes : (ℕ → IdSet → Bool) → (ℕ → IdSet → Bool) → ℕ → Type 0
@@ -85,9 +85,10 @@ module _ (P Q : ℕ → IdSet → Bool) where
   held-passes : (e : Held) → Passes P Q (e .key) → heldMeets linkage (rulesWith P) e ≡ true → heldMeets linkage (rulesWith Q) e ≡ true
   unfolding heldMeets
   held-passes e h m =
-      let a = and-three (isKey (e .key)) (maybeMeets linkage (rulesWith P) (e .key) (e .shown)) (maybeMeets linkage (rulesWith P) (e .key) (e .draft)) .0 m in
-      and-three (isKey (e .key)) (maybeMeets linkage (rulesWith Q) (e .key) (e .shown)) (maybeMeets linkage (rulesWith Q) (e .key) (e .draft)) .1
-      (a .0, maybe-passes (e .key) (e .shown) h (a .1), maybe-passes (e .key) (e .draft) h (a .2))
+      let n = numberMeets (e .shown) (e .stamp) in
+      let a = and-four n (isKey (e .key)) (maybeMeets linkage (rulesWith P) (e .key) (e .shown)) (maybeMeets linkage (rulesWith P) (e .key) (e .draft)) .0 m in
+      and-four n (isKey (e .key)) (maybeMeets linkage (rulesWith Q) (e .key) (e .shown)) (maybeMeets linkage (rulesWith Q) (e .key) (e .draft)) .1
+      (a .0, a .1, maybe-passes (e .key) (e .shown) h (a .2), maybe-passes (e .key) (e .draft) h (a .3))
 
   all-pass : (t : Entries) → Every (λ e. Passes P Q (e .key)) t → allMeet linkage (rulesWith P) t ≡ true → allMeet linkage (rulesWith Q) t ≡ true
   all-pass [] h m = refl
@@ -130,8 +131,12 @@ set-tuned k z l =
 
 -- what met the rules meets them
 pub met-before : (t : Content) → metBefore t ≡ true → meets t ≡ true
-unfolding metBefore setsMeet
-met-before t h = table-passes setBefore setMeets (t .sets) (every (t .sets)) h
+unfolding metBefore meets setsMeet
+met-before t h =
+    let n = numbersWithin (t .blocks) (t .sets) in
+    let b = leb (t .blocks) mostBlocks in
+    let a = and-three (tableMeets linkage (rulesWith setBefore) (t .sets)) n b .0 h in
+    and-three (tableMeets linkage (rulesWith setMeets) (t .sets)) n b .1 (table-passes setBefore setMeets (t .sets) (every (t .sets)) (a .0), a .1, a .2)
   where
     every : (es : Entries) → Every (λ (e : Held). Passes setBefore setMeets (e .key)) es
     every [] = tt
@@ -145,10 +150,17 @@ abbrev pub TunedKeys : Content → Type 0
 TunedKeys t = Every TunedKey (t .sets)
 
 pub tuned-met : (t : Content) → TunedKeys t → meets t ≡ true → metBefore t ≡ true
-unfolding metBefore setsMeet
+unfolding metBefore meets setsMeet
 tuned-met t z h =
-    table-passes setMeets setBefore (t .sets)
-    (every-imp TunedKey (λ (e : Held). Passes setMeets setBefore (e .key)) (λ e o. set-tuned (e .key) o) (t .sets) z) h
+    let n = numbersWithin (t .blocks) (t .sets) in
+    let b = leb (t .blocks) mostBlocks in
+    let a = and-three (tableMeets linkage (rulesWith setMeets) (t .sets)) n b .0 h in
+    and-three (tableMeets linkage (rulesWith setBefore) (t .sets)) n b .1 (
+      table-passes setMeets setBefore (t .sets)
+          (every-imp TunedKey (λ (e : Held). Passes setMeets setBefore (e .key)) (λ e o. set-tuned (e .key) o) (t .sets) z) (a .0),
+      a .1,
+      a .2,
+    )
 
 -- ---- the guard
 
@@ -162,19 +174,19 @@ guarded = each-shown Guarded (λ s m z. begins-tuned (s .key) (s .set .items) z 
 -- ---- the keys that come to be held
 
 -- of fields with OE 0 only such keys do
-keys-steps : (t : Entries) (fs : List Field) → Every GoodField fs → Every Tuned fs → Every TunedKey t → Every TunedKey (steps linkage t (map said fs) .0)
+keys-steps : (n : ℕ) (t : Entries) (fs : List Field) → Every GoodField fs → Every Tuned fs → Every TunedKey t → Every TunedKey (steps linkage t (map (said n) fs) .0)
 unfolding said
-keys-steps t fs g z h = every-steps linkage lawful TunedKey t (map said fs) (keep fs g z) h
+keys-steps n t fs g z h = every-steps linkage lawful TunedKey t (map (said n) fs) (keep fs g z) h
   where
-    keep : (gs : List Field) → Every GoodField gs → Every Tuned gs → Every (Keeps linkage TunedKey) (map said gs)
+    keep : (gs : List Field) → Every GoodField gs → Every Tuned gs → Every (Keeps linkage TunedKey) (map (said n) gs)
     keep [] g z = tt
-    keep (f ∷ gs) g z = (keeps-key linkage (λ (k : ℕ). oeOf k ≡ 0) (said f) (key-oe f (g .0 .bits) ∙ z .0), keep gs (g .1) (z .1))
+    keep (f ∷ gs) g z = (keeps-key linkage (λ (k : ℕ). oeOf k ≡ 0) (said n f) (key-oe f (g .0 .bits) ∙ z .0), keep gs (g .1) (z .1))
 
 keys-block : (t : Content) (fib : List ℕ) → Bytes fib → TunedIn (verdict fib) → TunedKeys t → TunedKeys (readBlock t fib .left)
 unfolding closed entryWith
 keys-block t fib b z h =
     cases-verdict (verdict fib)
-    (λ fs e. subst (λ (a : Answer). TunedKeys (a .left)) (sym (answer-taken t fib fs e)) (keys-steps (t .sets) fs (taken-good fib fs b e) (subst TunedIn e z) h))
+    (λ fs e. subst (λ (a : Answer). TunedKeys (a .left)) (sym (answer-taken t fib fs e)) (keys-steps (nextBlock (t .blocks)) (t .sets) fs (taken-good fib fs b e) (subst TunedIn e z) h))
     (λ o p e. subst (λ (a : Answer). TunedKeys (a .left)) (sym (answer-refused t fib o p e)) (every-drop-open linkage TunedKey (t .sets) (λ x q. q) h))
     (λ e. subst (λ (a : Answer). TunedKeys (a .left)) (sym (answer-none t fib e)) h)
 

@@ -1,5 +1,5 @@
 -- The table rules of a family taken apart, put together again and kept. In this order: items that differ; what the tests of the rules
--- mean; each rule in its parts, of a list, an entry, ascending keys, a table; fields, refused blocks, forgettings and runs keep the rules.
+-- mean; stamps; each rule in its parts, of a list, an entry, ascending keys, a table; fields, refused blocks, forgettings and runs keep the rules.
 use Prim.Native.Nat.{_≤_}
 use native.Mathlib.Omega.{arith}
 use mathlib.Core.Path.{_≡_, refl}
@@ -54,6 +54,44 @@ pub record Means (F : Family) (R : Rules F) : Type 1 where
   pub unstamped-is : StampIs none (F .unstamped)
   pub may-begin : (k : F .Key) → KeyIs k → R .begins k ≡ true
 
+-- ---- stamps
+
+-- what is known of a stamp beside what is shown, and of a new key's, is kept by a field whose stamp has it beside any set
+module _ (F : Family) (Q : Option (Listed F) → F .Stamp → Type 0) (fresh-is : Q none (F .unstamped)) where
+  stamp-started : (e : Entry F) (s : F .State) (p : F .Stamp) (l : Listed F) (d : Option (Listed F)) → Q (e .shown) (e .stamp)
+      → ((l : Listed F) → Q (some l) p) → Q (started F e s p l d .0 .shown) (started F e s p l d .0 .stamp)
+  unfolding started entryWith
+  stamp-started e s p l none h q = h
+  stamp-started e s p l (some d) h q = q d
+
+  stamp-continued : (e : Entry F) (s : F .State) (l : Listed F) (d : Option (Listed F)) → Q (e .shown) (e .stamp)
+      → Q (continued F e s l d .0 .shown) (continued F e s l d .0 .stamp)
+  unfolding continued entryWith
+  stamp-continued e s l none h = h
+  stamp-continued e s l (some d) h =
+      cond-both (λ (r : Entry F × Note). Q (r .0 .shown) (r .0 .stamp)) (leb (length (extended F d l .items)) (F .most)) _ _ h h
+
+  stamp-held : (e : Entry F) (s : F .State) (p : F .Stamp) (a : Act F) → Q (e .shown) (e .stamp)
+      → ((l : Listed F) → Q (some l) p) → Q (onHeld F e s p a .0 .shown) (onHeld F e s p a .0 .stamp)
+  unfolding onHeld entryWith
+  stamp-held e s p (start l) h q = stamp-started e s p l (e .draft) h q
+  stamp-held e s p (continuation l) h q = stamp-continued e s l (e .draft) h
+  stamp-held e s p noList h q = h
+  stamp-held e s p drops h q = h
+
+  stamp-unheld : (r : Bool) (k : F .Key) (s : F .State) (a : Act F) → Within (λ e. Q (e .shown) (e .stamp)) (onUnheld F r k s a .0)
+  unfolding onUnheld fresh
+  stamp-unheld true k s (start l) = fresh-is
+  stamp-unheld false k s (start l) = tt
+  stamp-unheld r k s (continuation l) = tt
+  stamp-unheld r k s noList = tt
+  stamp-unheld r k s drops = tt
+
+  pub stamp-keeps : (f : Said F) → ((l : Listed F) → Q (some l) (f .stamp)) → Keeps F (λ e. Q (e .shown) (e .stamp)) f
+  unfolding effect kept
+  stamp-keeps f q r none w h = stamp-unheld r (f .key) (f .state) (f .act)
+  stamp-keeps f q r (some e) w h = stamp-held e (f .state) (f .stamp) (f .act) h q
+
 -- ---- the rules in their parts
 
 module _ (F : Family) (R : Rules F) (M : Means F R) where
@@ -101,46 +139,12 @@ module _ (F : Family) (R : Rules F) (M : Means F R) where
   FieldMeets f = M .KeyIs (f .key) × Brings F (M .ListIs) (f .key) (f .act) × ((l : Listed F) → M .StampIs (some l) (f .stamp))
 
   -- such a field keeps the rules of every entry
-  pub stamp-started : (e : Entry F) (s : F .State) (p : F .Stamp) (l : Listed F) (d : Option (Listed F)) → M .StampIs (e .shown) (e .stamp)
-      → ((l : Listed F) → M .StampIs (some l) p) → M .StampIs (started F e s p l d .0 .shown) (started F e s p l d .0 .stamp)
-  unfolding started entryWith
-  stamp-started e s p l none h q = h
-  stamp-started e s p l (some d) h q = q d
-
-  pub stamp-continued : (e : Entry F) (s : F .State) (l : Listed F) (d : Option (Listed F)) → M .StampIs (e .shown) (e .stamp)
-      → M .StampIs (continued F e s l d .0 .shown) (continued F e s l d .0 .stamp)
-  unfolding continued entryWith
-  stamp-continued e s l none h = h
-  stamp-continued e s l (some d) h =
-      cond-both (λ (r : Entry F × Note). M .StampIs (r .0 .shown) (r .0 .stamp)) (leb (length (extended F d l .items)) (F .most)) _ _ h h
-
-  pub stamp-held : (e : Entry F) (s : F .State) (p : F .Stamp) (a : Act F) → M .StampIs (e .shown) (e .stamp)
-      → ((l : Listed F) → M .StampIs (some l) p) → M .StampIs (onHeld F e s p a .0 .shown) (onHeld F e s p a .0 .stamp)
-  unfolding onHeld entryWith
-  stamp-held e s p (start l) h q = stamp-started e s p l (e .draft) h q
-  stamp-held e s p (continuation l) h q = stamp-continued e s l (e .draft) h
-  stamp-held e s p noList h q = h
-  stamp-held e s p drops h q = h
-
-  pub stamp-unheld : (r : Bool) (k : F .Key) (s : F .State) (a : Act F) → Within (λ e. M .StampIs (e .shown) (e .stamp)) (onUnheld F r k s a .0)
-  unfolding onUnheld fresh
-  stamp-unheld true k s (start l) = M .unstamped-is
-  stamp-unheld false k s (start l) = tt
-  stamp-unheld r k s (continuation l) = tt
-  stamp-unheld r k s noList = tt
-  stamp-unheld r k s drops = tt
-
-  pub stamp-keeps : (f : Said F) → ((l : Listed F) → M .StampIs (some l) (f .stamp)) → Keeps F (λ e. M .StampIs (e .shown) (e .stamp)) f
-  unfolding effect kept
-  stamp-keeps f q r none w h = stamp-unheld r (f .key) (f .state) (f .act)
-  stamp-keeps f q r (some e) w h = stamp-held e (f .state) (f .stamp) (f .act) h q
-
   pub field-keeps : (f : Said F) → FieldMeets f → Keeps F HeldMeets f
   field-keeps f h r o w m =
       within-three (λ e. M .KeyIs (e .key)) (Lists F (M .ListIs)) (λ e. M .StampIs (e .shown) (e .stamp)) (effect F r f o .0)
       (keeps-key F (M .KeyIs) f (h .0) r o w (within-imp HeldMeets (λ e. M .KeyIs (e .key)) (λ e x. x .0) o m))
       (lists-keep F (M .ListIs) f (h .1) r o w (within-imp HeldMeets (Lists F (M .ListIs)) (λ e x. x .1) o m))
-      (stamp-keeps f (h .2) r o w (within-imp HeldMeets (λ e. M .StampIs (e .shown) (e .stamp)) (λ e x. x .2) o m))
+      (stamp-keeps F (M .StampIs) (M .unstamped-is) f (h .2) r o w (within-imp HeldMeets (λ e. M .StampIs (e .shown) (e .stamp)) (λ e x. x .2) o m))
 
 module _ (F : Family) (L : Lawful F) where
   open Family F using (Key, keyBefore)

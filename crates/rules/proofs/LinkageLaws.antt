@@ -1,5 +1,5 @@
 -- The laws of collecting for linkage sets. In this order: names of two lists together; a field of a taken block brings lists that
--- meet the table rules; so reading blocks of bytes and forgetting keep them; refused blocks; outcomes; recordings.
+-- meet the table rules; numbers and the count; so reading blocks of bytes and forgetting keep them; refused blocks; outcomes; recordings.
 use Prim.Native.Nat.{ℕ, zero, suc, _+_, _*_, _/_, _%_, _^_, _≤_, _<_}
 use native.Mathlib.Omega.{arith}
 use mathlib.Core.Path.{_≡_, refl, sym, _∙_, ap, ap₂, subst}
@@ -14,13 +14,13 @@ use Rattle.rules.specs.declared.Outcome.{Outcome}
 use Rattle.rules.specs.declared.Outcome.the-variants.{Done, NotABlock}
 use Rattle.rules.specs.Block.{Placed, Walk, whole, broken, Fig, figs, checkHolds}
 use Rattle.rules.specs.Field.{Field, keyOf, Pair, pair, pairsOf, startPairs, firstKind, namedBy, hasList, isContinuation, width, dab, rds, drm, wrongValue, emptyStart}
-use Rattle.rules.specs.Family.{start, continuation, noList, addedAll, opening, extended, steps, dropOpen, forget}
-use Rattle.rules.specs.Collecting.{joinNames, linkage, IdSet, Entries, Content, linkageRules, withSets, brings, actOf, said, keyWidth, notEmpty, oeOf, firstOf, mayBegin, beginsRight, kindNamed, namesMeet, meets, mostIds}
+use Rattle.rules.specs.Family.{start, continuation, noList, addedAll, opening, extended, entryWith, steps, closed, dropOpen, forget}
+use Rattle.rules.specs.Collecting.{joinNames, linkage, IdSet, Held, Entries, Content, linkageRules, nextBlock, afterBlock, brings, actOf, said, keyWidth, notEmpty, oeOf, firstOf, mayBegin, beginsRight, kindNamed, namesMeet, numberMeets, meets, mostIds, mostBlocks}
 use Rattle.rules.specs.Outcomes.{numberOf, Verdict, taken, refused, noBlock, judgeFields, judgeFigs, verdict, Answer, answerTo, readBlock, readBlocks, readRecording, leftOver, forgotten, allFields, some?, firstPlace}
 use Rattle.rules.proofs.Basics.{cases-bool, true-false, cond-cases, cond-both, Every, every-imp, every-map, every-from, every-take, every-drop}
-use Rattle.rules.proofs.FamilyLaws.{Brings, different-addedAll, addedAll-first, opening-first, length-addedAll, every-addedAll, steps-notes}
-use Rattle.rules.proofs.FamilyRules.{FieldMeets, table-steps, table-drop-open, table-forget}
-use Rattle.rules.proofs.TableRules.{lawful, dab-named, names-small, first-again, PairMeets, SetMeets, KeyMeets, meaning, Meets, table-meets, join-mod, join-div, join-zero, kind-cases}
+use Rattle.rules.proofs.FamilyLaws.{Brings, Keeps, different-addedAll, addedAll-first, opening-first, length-addedAll, every-addedAll, every-steps, every-drop-open, every-forget, steps-notes}
+use Rattle.rules.proofs.FamilyRules.{FieldMeets, stamp-keeps, table-steps, table-drop-open, table-forget}
+use Rattle.rules.proofs.TableRules.{lawful, dab-named, names-small, first-again, PairMeets, SetMeets, KeyMeets, meaning, Meets, table-meets, NumbersWithin, ContentMeets, content-meets, join-mod, join-div, join-zero, kind-cases}
 use Rattle.rules.proofs.Taken.{Bytes, FieldBits, GoodField, taken-good, taken-few}
 
 -- ---- names of two lists together
@@ -224,17 +224,50 @@ field-brings f g =
 
 -- ---- the table rules are kept
 
-pub meets-steps : (t : Entries) (fs : List Field) → Every GoodField fs → Meets t → Meets (steps linkage t (map said fs) .0)
-unfolding said
-meets-steps t fs g m =
-    let good = every-imp GoodField (λ f. FieldMeets linkage linkageRules meaning (said f)) (λ f h. (field-key f h, field-brings f h, λ l. tt)) fs g in
-    table-steps linkage lawful linkageRules meaning t (map said fs) (every-map (FieldMeets linkage linkageRules meaning) said fs good) m
+pub meets-steps : (n : ℕ) (t : Entries) (fs : List Field) → Every GoodField fs → Meets t → Meets (steps linkage t (map (said n) fs) .0)
+unfolding said numberMeets
+meets-steps n t fs g m =
+    let good = every-imp GoodField (λ f. FieldMeets linkage linkageRules meaning (said n f)) (λ f h. (field-key f h, field-brings f h, λ l. refl)) fs g in
+    table-steps linkage lawful linkageRules meaning t (map (said n) fs) (every-map (FieldMeets linkage linkageRules meaning) (said n) fs good) m
 
 pub meets-drop-open : (t : Entries) → Meets t → Meets (dropOpen linkage t)
 meets-drop-open t m = table-drop-open linkage lawful linkageRules meaning t m
 
 pub meets-forget : (k : ℕ) (t : Entries) → Meets t → Meets (forget linkage k t)
 meets-forget k t m = table-forget linkage lawful linkageRules meaning k t m
+
+-- ---- numbers and the count
+
+-- the count grows, and stops
+pub next-more : (n : ℕ) → n ≤ mostBlocks → n ≤ nextBlock n
+unfolding nextBlock
+next-more n h = omega arith
+
+pub next-most : (n : ℕ) → nextBlock n ≤ mostBlocks
+unfolding nextBlock
+next-most n = omega arith
+
+pub within-more : (n m : ℕ) (t : Entries) → n ≤ m → NumbersWithin n t → NumbersWithin m t
+within-more n m t h = every-imp (λ (e : Held). e .stamp ≤ n) (λ (e : Held). e .stamp ≤ m) (λ e x. omega arith) t
+
+-- fields in a block of a number keep all numbers within it
+pub within-steps : (n : ℕ) (t : Entries) (fs : List Field) → NumbersWithin n t → NumbersWithin n (steps linkage t (map (said n) fs) .0)
+unfolding said
+within-steps n t fs h =
+    every-steps linkage lawful (λ e. e .stamp ≤ n) t (map (said n) fs)
+    (every-map (Keeps linkage (λ e. e .stamp ≤ n)) (said n) fs (keep fs)) h
+  where
+    keep : (gs : List Field) → Every (λ g. Keeps linkage (λ e. e .stamp ≤ n) (said n g)) gs
+    keep [] = tt
+    keep (g ∷ gs) = (stamp-keeps linkage (λ shown p. p ≤ n) (omega arith) (said n g) (λ l. omega arith), keep gs)
+
+pub within-drop-open : (n : ℕ) (t : Entries) → NumbersWithin n t → NumbersWithin n (dropOpen linkage t)
+unfolding closed entryWith
+within-drop-open n t h = every-drop-open linkage (λ e. e .stamp ≤ n) t (λ e x. x) h
+
+-- so a block leaves a content that meets the rules where its sets do
+pub after-block-meets : (t : Content) (s : Entries) → meets t ≡ true → Meets s → NumbersWithin (nextBlock (t .blocks)) s → meets (afterBlock t s) ≡ true
+after-block-meets t s m h w = content-meets (afterBlock t s) .1 (record { sets = table-meets s .1 h; within = w; most = next-most (t .blocks) })
 
 -- ---- reading a block
 
@@ -245,12 +278,12 @@ cases-verdict (refused o p) t r n = r o p refl
 cases-verdict noBlock t r n = n refl
 
 pub answer-taken : (t : Content) (fib : List ℕ) (fs : List Field) → verdict fib ≡ taken fs
-    → readBlock t fib ≡ record { outcome = Done; place = 0; notes = steps linkage (t .sets) (map said fs) .1; left = withSets t (steps linkage (t .sets) (map said fs) .0) }
+    → readBlock t fib ≡ record { outcome = Done; place = 0; notes = steps linkage (t .sets) (map (said (nextBlock (t .blocks))) fs) .1; left = afterBlock t (steps linkage (t .sets) (map (said (nextBlock (t .blocks))) fs) .0) }
 unfolding readBlock answerTo
 answer-taken t fib fs e = rw e
 
 pub answer-refused : (t : Content) (fib : List ℕ) (o : Outcome) (p : ℕ) → verdict fib ≡ refused o p
-    → readBlock t fib ≡ record { outcome = o; place = p; notes = []; left = withSets t (dropOpen linkage (t .sets)) }
+    → readBlock t fib ≡ record { outcome = o; place = p; notes = []; left = afterBlock t (dropOpen linkage (t .sets)) }
 unfolding readBlock answerTo
 answer-refused t fib o p e = rw e
 
@@ -262,34 +295,57 @@ answer-none t fib e = rw e
 pub bytes-list : (fib : List ℕ) → ((i : ℕ) → getD fib i 0 < 256) → Bytes fib
 bytes-list fib h = every-from (λ b. b < 256) 0 fib h
 
-pub meets-block : (t : Content) (fib : List ℕ) → Bytes fib → Meets (t .sets) → Meets (readBlock t fib .left .sets)
+-- a taken block keeps the table rules, and so does a refused one
+pub taken-keeps : (t : Content) (fs : List Field) → Every GoodField fs → meets t ≡ true
+    → meets (afterBlock t (steps linkage (t .sets) (map (said (nextBlock (t .blocks))) fs) .0)) ≡ true
+taken-keeps t fs g h =
+    let m = content-meets t .0 h in
+    let n = nextBlock (t .blocks) in
+    after-block-meets t _ h (meets-steps n (t .sets) fs g (table-meets (t .sets) .0 (m .sets)))
+    (within-steps n (t .sets) fs (within-more (t .blocks) n (t .sets) (next-more (t .blocks) (m .most)) (m .within)))
+
+pub refused-keeps : (t : Content) → meets t ≡ true → meets (afterBlock t (dropOpen linkage (t .sets))) ≡ true
+refused-keeps t h =
+    let m = content-meets t .0 h in
+    let n = nextBlock (t .blocks) in
+    after-block-meets t _ h (meets-drop-open (t .sets) (table-meets (t .sets) .0 (m .sets)))
+    (within-drop-open n (t .sets) (within-more (t .blocks) n (t .sets) (next-more (t .blocks) (m .most)) (m .within)))
+
+pub meets-block : (t : Content) (fib : List ℕ) → Bytes fib → meets t ≡ true → meets (readBlock t fib .left) ≡ true
 meets-block t fib b m =
     cases-verdict (verdict fib)
-    (λ fs e. subst (λ (a : Answer). Meets (a .left .sets)) (sym (answer-taken t fib fs e)) (meets-steps (t .sets) fs (taken-good fib fs b e) m))
-    (λ o p e. subst (λ (a : Answer). Meets (a .left .sets)) (sym (answer-refused t fib o p e)) (meets-drop-open (t .sets) m))
-    (λ e. subst (λ (a : Answer). Meets (a .left .sets)) (sym (answer-none t fib e)) m)
+    (λ fs e. subst (λ (a : Answer). meets (a .left) ≡ true) (sym (answer-taken t fib fs e)) (taken-keeps t fs (taken-good fib fs b e) m))
+    (λ o p e. subst (λ (a : Answer). meets (a .left) ≡ true) (sym (answer-refused t fib o p e)) (refused-keeps t m))
+    (λ e. subst (λ (a : Answer). meets (a .left) ≡ true) (sym (answer-none t fib e)) m)
 
 -- reading a block of bytes keeps the table rules
 pub block-keeps : (t : Content) (fib : List ℕ) → ((i : ℕ) → getD fib i 0 < 256) → meets t ≡ true → meets (readBlock t fib .left) ≡ true
-block-keeps t fib b h = table-meets (readBlock t fib .left .sets) .1 (meets-block t fib (bytes-list fib b) (table-meets (t .sets) .0 h))
+block-keeps t fib b h = meets-block t fib (bytes-list fib b) h
 
 -- and so does forgetting
 pub forget-keeps : (k : ℕ) (t : Content) → meets t ≡ true → meets (forgotten k t) ≡ true
 unfolding forgotten
-forget-keeps k t h = table-meets (forget linkage k (t .sets)) .1 (meets-forget k (t .sets) (table-meets (t .sets) .0 h))
+forget-keeps k t h =
+    let m = content-meets t .0 h in
+    content-meets (forgotten k t) .1
+    (record {
+      sets = table-meets (forget linkage k (t .sets)) .1 (meets-forget k (t .sets) (table-meets (t .sets) .0 (m .sets)));
+      within = every-forget linkage (λ e. e .stamp ≤ t .blocks) k (t .sets) (m .within);
+      most = m .most;
+    })
 
 -- at most 14 notes
 pub notes-few : (t : Content) (fib : List ℕ) → length (readBlock t fib .notes) ≤ 14
 notes-few t fib =
     cases-verdict (verdict fib)
     (λ fs e. subst (λ (a : Answer). length (a .notes) ≤ 14) (sym (answer-taken t fib fs e))
-    (omega (arith, steps-notes linkage (t .sets) (map said fs), length-map fs said, taken-few fib fs e)))
+    (omega (arith, steps-notes linkage (t .sets) (map (said (nextBlock (t .blocks))) fs), length-map fs (said (nextBlock (t .blocks))), taken-few fib fs e)))
     (λ o p e. subst (λ (a : Answer). length (a .notes) ≤ 14) (sym (answer-refused t fib o p e)) (omega arith))
     (λ e. subst (λ (a : Answer). length (a .notes) ≤ 14) (sym (answer-none t fib e)) (omega arith))
 
 -- one note for each field of a taken block
 pub notes-fields : (t : Content) (fib : List ℕ) (fs : List Field) → verdict fib ≡ taken fs → length (readBlock t fib .notes) ≡ length fs
-notes-fields t fib fs e = rw (answer-taken t fib fs e) (steps-notes linkage (t .sets) (map said fs) ∙ length-map fs said)
+notes-fields t fib fs e = rw (answer-taken t fib fs e) (steps-notes linkage (t .sets) (map (said (nextBlock (t .blocks))) fs) ∙ length-map fs (said (nextBlock (t .blocks))))
 
 -- ---- refused blocks
 
@@ -365,7 +421,7 @@ no-block t fib h = answer-none t fib (unfold verdict in rw (ne-eqb (length fib) 
 
 -- ---- recordings
 
-pub meets-blocks : (n : ℕ) (t : Content) (bytes : List ℕ) → Bytes bytes → Meets (t .sets) → Meets (readBlocks n t bytes .sets)
+pub meets-blocks : (n : ℕ) (t : Content) (bytes : List ℕ) → Bytes bytes → meets t ≡ true → meets (readBlocks n t bytes) ≡ true
 unfolding readBlocks
 meets-blocks zero t bytes b m = m
 meets-blocks (suc n) t bytes b m =
@@ -375,7 +431,7 @@ meets-blocks (suc n) t bytes b m =
 pub recording-keeps : (t : Content) (bytes : List ℕ) → ((i : ℕ) → getD bytes i 0 < 256) → meets t ≡ true → meets (readRecording t bytes) ≡ true
 unfolding readRecording
 recording-keeps t bytes b h =
-    table-meets (readBlocks (length bytes / 32) t bytes .sets) .1 (meets-blocks (length bytes / 32) t bytes (bytes-list bytes b) (table-meets (t .sets) .0 h))
+    meets-blocks (length bytes / 32) t bytes (bytes-list bytes b) h
 
 -- whole blocks first, then the rest
 pub blocks-append : (n m k : ℕ) (t : Content) (a b : List ℕ) → n ≡ m + k → length a ≡ 32 * m

@@ -1,6 +1,6 @@
 -- The table rules (document 01, Collecting) taken apart and put together again. In this order: the tests of linkage are lawful;
 -- what the rules bound, kinds, names and widths; names of two lists together; pairs that differ; then each rule in its parts, of
--- a pair, a set, an entry and a table, as the tests say them and as what they mean; how many sets a table shows, and what holds of each.
+-- a pair, a set, an entry, a table and its count, as the tests say them and as what they mean; how many sets a table shows, and what holds of each.
 use Prim.Native.Nat.{ℕ, _/_, _%_, _^_, _≤_, _<_, max}
 use native.Mathlib.Nat.{pow-le-pow-right}
 use native.Mathlib.Omega.{arith}
@@ -14,8 +14,8 @@ use lib.Dec.{leb, ltb, eqb}
 use borrow.Author.Tests.{ltb-true, ltb-false, leb-true, eqb-true, eqb-false, lt-ltb, le-leb, eq-eqb, ne-eqb}
 use Rattle.rules.specs.Field.{Pair, firstKind, width, dab, rds, drm}
 use Rattle.rules.specs.Family.{member, heldMeets}
-use Rattle.rules.specs.Collecting.{samePair, joinNames, linkage, IdSet, Held, Entries, Content, Shown, isKey, linkageRules, keyWidth, allDiffer, notEmpty, oeOf, firstOf, mayBegin, beginsRight, kindNamed, pairsMeet, namesMeet, setMeets, ifThere, entryMeets, ascends, entriesMeet, setsMeet, meets, showing, shownSets, mostKeys, mostIds}
-use Rattle.rules.proofs.Basics.{cases-bool, cases-option, and-left, and-right, and-both, and-three, and-six, or-cases, true-false, not-true, true-not, cond-both, eqb-self, ltb-self, ltb-trans, ltb-or, Every}
+use Rattle.rules.specs.Collecting.{samePair, joinNames, linkage, IdSet, Held, Entries, Content, Shown, isKey, linkageRules, keyWidth, allDiffer, notEmpty, oeOf, firstOf, mayBegin, beginsRight, kindNamed, pairsMeet, namesMeet, setMeets, ifThere, entryMeets, ascends, entriesMeet, numberMeets, setsMeet, numbersWithin, meets, showing, shownSets, mostKeys, mostIds, mostBlocks}
+use Rattle.rules.proofs.Basics.{cases-bool, cases-option, and-left, and-right, and-both, and-three, and-four, and-six, or-cases, true-false, not-true, true-not, cond-both, eqb-self, ltb-self, ltb-trans, ltb-or, Every}
 use Rattle.rules.proofs.FamilyLaws.{Lawful, Different}
 use Rattle.rules.proofs.FamilyRules.{items-differ, items-before, Means, HeldMeets, TableMeets, table-means}
 
@@ -241,6 +241,7 @@ set-meets k l = (
 -- ---- the rule of an entry
 
 pub record EntryRules (e : Held) : Type 0 where
+  pub number : numberMeets (e .shown) (e .stamp) ≡ true
   pub key : isKey (e .key) ≡ true
   pub shown : ifThere (e .key) (e .shown) ≡ true
   pub draft : ifThere (e .key) (e .draft) ≡ true
@@ -248,11 +249,9 @@ pub record EntryRules (e : Held) : Type 0 where
 pub entry-rules : (e : Held) → (entryMeets e ≡ true) ↔ EntryRules e
 unfolding heldMeets ifThere
 entry-rules e =
-    let k = isKey (e .key) in
-    let s = ifThere (e .key) (e .shown) in
-    let d = ifThere (e .key) (e .draft) in (
-      λ h. let ks = and-left (k && s) d h in record { key = and-left k s ks; shown = and-right k s ks; draft = and-right (k && s) d h },
-      λ r. and-both (k && s) d (and-both k s (r .key) (r .shown)) (r .draft),
+    let a = and-four (numberMeets (e .shown) (e .stamp)) (isKey (e .key)) (ifThere (e .key) (e .shown)) (ifThere (e .key) (e .draft)) in (
+      λ h. let t = a .0 h in record { number = t .0; key = t .1; shown = t .2; draft = t .3 },
+      λ r. a .1 (r .number, r .key, r .shown, r .draft),
     )
 
 -- what it is to be a key
@@ -270,21 +269,26 @@ key-meets k =
 pub key-some : (k : ℕ) → KeyMeets k → 0 < k
 key-some k h = cases-bool (ltb 0 k) (ltb-true 0 k) (λ z. absurd (h .1 (omega (arith, ltb-false 0 k z))))
 
+-- no set, and the number 0
+pub no-number : numberMeets none 0 ≡ true
+unfolding numberMeets
+no-number = refl
+
 -- what the tests of linkage mean
 abbrev pub meaning : Means linkage linkageRules
 meaning =
     record {
       KeyIs = KeyMeets;
       ListIs = SetMeets;
-      StampIs = λ shown stamp. Unit {0};
+      StampIs = λ shown stamp. numberMeets shown stamp ≡ true;
       key-is = key-meets;
       list-is = set-meets;
-      stamp-is = λ shown stamp. (λ h. tt, λ h. refl);
-      unstamped-is = tt;
+      stamp-is = λ shown stamp. (λ h. h, λ h. h);
+      unstamped-is = no-number;
       may-begin = λ k h. lt-ltb 0 k (key-some k h);
     }
 
--- an entry: its key, its lists, and nothing of its stamp
+-- an entry: its key, its lists, and its number
 abbrev pub EntryMeets : Held → Type 0
 EntryMeets e = HeldMeets linkage linkageRules meaning e
 
@@ -315,6 +319,37 @@ pub meets-nil : setsMeet [] ≡ true
 unfolding setsMeet ascends entriesMeet
 meets-nil = refl
 
+-- ---- the rule of all that a table holds
+
+-- no number is above so many blocks
+abbrev pub NumbersWithin : ℕ → Entries → Type 0
+NumbersWithin n t = Every (λ (e : Held). e .stamp ≤ n) t
+
+pub numbers-within : (n : ℕ) (t : Entries) → (numbersWithin n t ≡ true) ↔ NumbersWithin n t
+unfolding numbersWithin
+numbers-within n [] = (λ h. tt, λ h. refl)
+numbers-within n (e ∷ es) = (
+  λ h. (leb-true (e .stamp) n (and-left (leb (e .stamp) n) (numbersWithin n es) h), numbers-within n es .0 (and-right (leb (e .stamp) n) (numbersWithin n es) h)),
+  λ m. and-both (leb (e .stamp) n) (numbersWithin n es) (le-leb (e .stamp) n (m .0)) (numbers-within n es .1 (m .1)),
+)
+
+-- the sets, their numbers, and the count
+pub record ContentMeets (t : Content) : Type 0 where
+  pub sets : setsMeet (t .sets) ≡ true
+  pub within : NumbersWithin (t .blocks) (t .sets)
+  pub most : t .blocks ≤ mostBlocks
+
+pub content-meets : (t : Content) → (meets t ≡ true) ↔ ContentMeets t
+unfolding meets
+content-meets t =
+    let a = and-three (setsMeet (t .sets)) (numbersWithin (t .blocks) (t .sets)) (leb (t .blocks) mostBlocks) in (
+      λ h. let r = a .0 h in record { sets = r .0; within = numbers-within (t .blocks) (t .sets) .0 (r .1); most = leb-true (t .blocks) mostBlocks (r .2) },
+      λ m. a .1 (m .sets, numbers-within (t .blocks) (t .sets) .1 (m .within), le-leb (t .blocks) mostBlocks (m .most)),
+    )
+
+pub sets-meet : (t : Content) → meets t ≡ true → setsMeet (t .sets) ≡ true
+sets-meet t m = content-meets t .0 m .sets
+
 -- ---- what a table shows
 
 -- no more sets than keys
@@ -340,4 +375,4 @@ module _ (P : Shown → Type 0) (each : (s : Shown) → setMeets (s .key) (s .se
       (each-entry es (and-right (entryMeets e) (entriesMeet es) m))
 
   pub each-shown : (t : Content) → meets t ≡ true → Every P (shownSets (t .sets))
-  each-shown t m = each-entry (t .sets) (table-rules (t .sets) .0 m .entries)
+  each-shown t m = each-entry (t .sets) (table-rules (t .sets) .0 (sets-meet t m) .entries)

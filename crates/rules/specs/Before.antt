@@ -8,7 +8,7 @@ use lib.Dec.{leb, ltb, eqb}
 use Rattle.rules.specs.declared.Outcome.the-variants.{Done}
 use Rattle.rules.specs.Field.{Field, keyOf, Pair, pair, dab, startPairs, namedBy, hasList, isContinuation}
 use Rattle.rules.specs.Family.{start, continuation, noList, Said, steps, Rules, tableMeets}
-use Rattle.rules.specs.Collecting.{linkage, IdSet, Content, withSets, isKey, keyWidth, notEmpty, allDiffer, pairsMeet, namesMeet, mostIds}
+use Rattle.rules.specs.Collecting.{linkage, IdSet, Content, nextBlock, afterBlock, isKey, keyWidth, notEmpty, allDiffer, pairsMeet, namesMeet, numberMeets, numbersWithin, mostIds, mostBlocks}
 use Rattle.rules.specs.Outcomes.{Verdict, taken, refused, noBlock, verdict, Answer, answerTo}
 
 -- ---- reading
@@ -20,20 +20,20 @@ pairsBefore f = cond (isContinuation f) (map (pair (f .qualifier)) (f .numbers))
 unfoldable pub bringsBefore : Field → IdSet
 bringsBefore f = record { items = pairsBefore f; named = namedBy (f .qualifier) }
 
-unfoldable pub saidBefore : Field → Said linkage
-saidBefore f =
+unfoldable pub saidBefore : ℕ → Field → Said linkage
+saidBefore n f =
     record {
       key = keyOf f;
       state = eqb (f .la) 1;
       act = cond (hasList f) (cond (isContinuation f) (continuation (bringsBefore f)) (start (bringsBefore f))) noList;
-      stamp = tt;
+      stamp = n;
     }
 
 -- a block: what is refused has not changed
 unfoldable pub answerBefore : Content → Verdict → Answer
 answerBefore t (taken fs) =
-    let r = steps linkage (t .sets) (map saidBefore fs) in
-    record { outcome = Done; place = 0; notes = r .1; left = withSets t (r .0) }
+    let r = steps linkage (t .sets) (map (saidBefore (nextBlock (t .blocks))) fs) in
+    record { outcome = Done; place = 0; notes = r .1; left = afterBlock t (r .0) }
 answerBefore t (refused o p) = answerTo t (refused o p)
 answerBefore t noBlock = answerTo t noBlock
 
@@ -64,9 +64,9 @@ rulesBefore =
     record {
       keyMeets = isKey;
       listMeets = setBefore;
-      stampMeets = λ shown stamp. true;
+      stampMeets = numberMeets;
       begins = ltb 0;
     }
 
 unfoldable pub metBefore : Content → Bool
-metBefore t = tableMeets linkage rulesBefore (t .sets)
+metBefore t = tableMeets linkage rulesBefore (t .sets) && numbersWithin (t .blocks) (t .sets) && leb (t .blocks) mostBlocks

@@ -1,5 +1,5 @@
 -- Collecting (document 01): linkage sets as an instance of the family, copying out, and the table rules.
-use Prim.Native.Nat.{ℕ, _+_, _*_, _/_, _%_, _^_, max}
+use Prim.Native.Nat.{ℕ, _+_, _*_, _/_, _%_, _^_, max, min}
 use mathlib.Core.Bool.{Bool, true, false, not, cond, _&&_, _||_}
 use mathlib.Core.List.{List, [], _∷_}
 use mathlib.Core.Option.{Option, none, some}
@@ -25,7 +25,11 @@ mostKeys = 32
 abbrev pub mostIds : ℕ
 mostIds = 128
 
--- keys and identifiers of linking, on or off
+-- the number at which counting blocks stops (document 02, R-9)
+abbrev pub mostBlocks : ℕ
+mostBlocks = 4294967295
+
+-- keys and identifiers of linking, on or off; the stamp is the number of the block at which a set was last shown, 0 for none
 abbrev pub linkage : Family
 linkage =
     record {
@@ -37,8 +41,8 @@ linkage =
       Names = ℕ;
       join = joinNames;
       State = Bool;
-      Stamp = Unit {0};
-      unstamped = tt;
+      Stamp = ℕ;
+      unstamped = 0;
       room = mostKeys;
       most = mostIds;
     }
@@ -53,19 +57,28 @@ Held = Entry linkage
 abbrev pub Entries : Type 0
 Entries = List Held
 
--- what a table holds: its sets
+-- what a table holds: its sets, and how many blocks it has counted
 pub record Content : Type 0 where
   pub sets : Entries
+  pub blocks : ℕ
 
 -- a table that holds nothing; one that holds these sets alone; a table with other sets
 abbrev pub nothing : Content
-nothing = record { sets = [] }
+nothing = record { sets = []; blocks = 0 }
 
 abbrev pub justSets : Entries → Content
-justSets s = record { sets = s }
+justSets s = record { sets = s; blocks = 0 }
 
 abbrev pub withSets : Content → Entries → Content
-withSets t s = record { sets = s }
+withSets t s = record { sets = s; blocks = t .blocks }
+
+-- blocks are numbered from 1: the number of the block after so many
+unfoldable pub nextBlock : ℕ → ℕ
+nextBlock n = min (n + 1) mostBlocks
+
+-- a table after one block more, with other sets
+abbrev pub afterBlock : Content → Entries → Content
+afterBlock t s = record { sets = s; blocks = nextBlock (t .blocks) }
 
 -- what a field brings
 unfoldable pub brings : Field → IdSet
@@ -75,8 +88,9 @@ brings f = record { items = pairsOf f; named = namedBy (f .qualifier) }
 unfoldable pub actOf : Field → Act linkage
 actOf f = cond (hasList f) (cond (isContinuation f) (continuation (brings f)) (start (brings f))) noList
 
-unfoldable pub said : Field → Said linkage
-said f = record { key = keyOf f; state = eqb (f .la) 1; act = actOf f; stamp = tt }
+-- what a field says in the block of a number
+unfoldable pub said : ℕ → Field → Said linkage
+said n f = record { key = keyOf f; state = eqb (f .la) 1; act = actOf f; stamp = n }
 
 -- ---- the table rules
 
@@ -133,13 +147,18 @@ setMeets k l =
     leb (length (l .items)) mostIds && notEmpty (l .items) && beginsRight k (l .items) && allDiffer (l .items)
     && pairsMeet (keyWidth k) (l .named) (l .items) && namesMeet k (l .named)
 
--- the rules of linkage: a key, its sets, and the first key above 0
+-- where no set is shown, the number is 0
+unfoldable pub numberMeets : Option IdSet → ℕ → Bool
+numberMeets none n = eqb n 0
+numberMeets (some l) n = true
+
+-- the rules of linkage: a key, its sets, the number of the shown one, and the first key above 0
 abbrev pub linkageRules : Rules linkage
 linkageRules =
     record {
       keyMeets = isKey;
       listMeets = setMeets;
-      stampMeets = λ shown stamp. true;
+      stampMeets = numberMeets;
       begins = ltb 0;
     }
 
@@ -160,9 +179,14 @@ entriesMeet t = allMeet linkage linkageRules t
 unfoldable pub setsMeet : Entries → Bool
 setsMeet t = tableMeets linkage linkageRules t
 
--- the table rules
-abbrev pub meets : Content → Bool
-meets t = setsMeet (t .sets)
+-- no number is above so many blocks
+unfoldable pub numbersWithin : ℕ → Entries → Bool
+numbersWithin n [] = true
+numbersWithin n (e ∷ es) = leb (e .stamp) n && numbersWithin n es
+
+-- the table rules: those of the sets, no number above the table's own count, and a count that is stored
+unfoldable pub meets : Content → Bool
+meets t = setsMeet (t .sets) && numbersWithin (t .blocks) (t .sets) && leb (t .blocks) mostBlocks
 
 -- ---- what a table shows
 

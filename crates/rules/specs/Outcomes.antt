@@ -13,7 +13,7 @@ use Rattle.rules.specs.declared.Note.the-variants.{Opened, ShownAndOpene
 use Rattle.rules.specs.Block.{bit, Placed, whatOf, Walk, whole, broken, Fig, figs, checkHolds}
 use Rattle.rules.specs.Field.{Field, isLinking, fieldsOf, wrongValue, emptyStart, numberIn, kindIn}
 use Rattle.rules.specs.Family.{steps, dropOpen, forget, find}
-use Rattle.rules.specs.Collecting.{linkage, IdSet, Held, Content, withSets, said}
+use Rattle.rules.specs.Collecting.{linkage, IdSet, Held, Content, withSets, nextBlock, afterBlock, said}
 
 -- the number of an outcome in document 01
 unfoldable pub numberOf : Outcome → ℕ
@@ -94,6 +94,12 @@ verdict fib =
     (cond (checkHolds fib) (judgeFigs (figs fib)) (refused CheckFails 0))
     noBlock
 
+-- a block is refused
+unfoldable pub isRefused : Verdict → Bool
+isRefused (taken fs) = false
+isRefused (refused o place) = true
+isRefused noBlock = false
+
 -- ---- reading a block
 
 -- the answer to a block: its outcome, the place where a refused block broke and else 0, one note a field where it is taken, and
@@ -104,12 +110,13 @@ pub record Answer : Type 0 where
   pub notes : List Note
   pub left : Content
 
--- a refused block leaves everything but the open lists; what is no block leaves them too
+-- a block is counted, taken or refused, and its fields carry its number; a refused one leaves everything else but the open lists. What is
+-- no block leaves all as it is
 unfoldable pub answerTo : Content → Verdict → Answer
 answerTo t (taken fs) =
-    let r = steps linkage (t .sets) (map said fs) in
-    record { outcome = Done; place = 0; notes = r .1; left = withSets t (r .0) }
-answerTo t (refused o p) = record { outcome = o; place = p; notes = []; left = withSets t (dropOpen linkage (t .sets)) }
+    let r = steps linkage (t .sets) (map (said (nextBlock (t .blocks))) fs) in
+    record { outcome = Done; place = 0; notes = r .1; left = afterBlock t (r .0) }
+answerTo t (refused o p) = record { outcome = o; place = p; notes = []; left = afterBlock t (dropOpen linkage (t .sets)) }
 answerTo t noBlock = record { outcome = NotABlock; place = 0; notes = []; left = t }
 
 unfoldable pub readBlock : Content → List ℕ → Answer
@@ -144,12 +151,21 @@ roomlessBlocks (suc n) t bytes =
     let a = readBlock t (take 32 bytes) in
     withoutRoom (a .notes) + roomlessBlocks n (a .left) (drop 32 bytes)
 
+-- how many of the first n blocks are refused
+unfoldable pub refusedOf : ℕ → List ℕ → ℕ
+refusedOf zero bytes = 0
+refusedOf (suc n) bytes = bit (isRefused (verdict (take 32 bytes))) + refusedOf n (drop 32 bytes)
+
 -- a recording: its whole blocks; the bytes left over are no block
 unfoldable pub readRecording : Content → List ℕ → Content
 readRecording t bytes = readBlocks (length bytes / 32) t bytes
 
 unfoldable pub leftOver : List ℕ → ℕ
 leftOver bytes = length bytes % 32
+
+-- how many of its blocks are refused
+unfoldable pub refusals : List ℕ → ℕ
+refusals bytes = refusedOf (length bytes / 32) bytes
 
 -- and how many of its starts found no room
 unfoldable pub roomless : Content → List ℕ → ℕ
@@ -168,18 +184,20 @@ forgetOutcome k t = heldOr (find linkage k (t .sets)) Done
 unfoldable pub forgotten : ℕ → Content → Content
 forgotten k t = withSets t (forget linkage k (t .sets))
 
--- a set copied out: its key, on or off, named kinds and how many identifiers, with both buffers as they are then
+-- a set copied out: its key, on or off, named kinds, the number of the block at which it was last shown and how many identifiers, with both
+-- buffers as they are then
 pub record Copied : Type 0 where
   pub outcome : Outcome
   pub key : ℕ
   pub on : Bool
   pub named : ℕ
+  pub confirmed : ℕ
   pub count : ℕ
   pub numbers : List ℕ
   pub kinds : List ℕ
 
 unfoldable pub notCopied : Outcome → List ℕ → List ℕ → Copied
-notCopied o ns ks = record { outcome = o; key = 0; on = false; named = 0; count = 0; numbers = ns; kinds = ks }
+notCopied o ns ks = record { outcome = o; key = 0; on = false; named = 0; confirmed = 0; count = 0; numbers = ns; kinds = ks }
 
 -- later places stay as they were
 unfoldable pub overwritten : List ℕ → List ℕ → List ℕ
@@ -195,6 +213,7 @@ copySet e (some l) ns ks =
       key = e .key;
       on = e .state;
       named = l .named;
+      confirmed = e .stamp;
       count = length (l .items);
       numbers = overwritten (map numberIn (l .items)) ns;
       kinds = overwritten (map kindIn (l .items)) ks;

@@ -14,7 +14,7 @@ use Rattle.lists.specs.declared.IdList.{IdList}
 use Rattle.lists.specs.Stored.{emptyList, storeList, storeMaybe, pairsIn}
 use Rattle.lists.proofs.StoredLaws.{pairs-in-store, not-none}
 use Rattle.sets.specs.declared.Sets.{Sets}
-use Rattle.sets.specs.Stored.{keyIn, onIn, shownIn, draftIn, storeSets}
+use Rattle.sets.specs.Stored.{keyIn, onIn, confirmedIn, shownIn, draftIn, storeSets}
 
 -- ---- a list
 
@@ -35,25 +35,25 @@ maybe-same k j (some l) (some m) f g e = ap (λ (x : IdSet). some x) (list-same 
 -- ---- entries
 
 entry-same : (x y : Held) → entryMeets x ≡ true → entryMeets y ≡ true
-    → keyIn x ≡ keyIn y → onIn x ≡ onIn y → shownIn x ≡ shownIn y → draftIn x ≡ draftIn y → x ≡ y
-unfolding onIn shownIn draftIn
-entry-same x y f g k o s d =
+    → keyIn x ≡ keyIn y → onIn x ≡ onIn y → confirmedIn x ≡ confirmedIn y → shownIn x ≡ shownIn y → draftIn x ≡ draftIn y → x ≡ y
+unfolding onIn confirmedIn shownIn draftIn
+entry-same x y f g k o p s d =
     let a = entry-rules x .0 f in
     let b = entry-rules y .0 g in
     let ss = maybe-same (x .key) (y .key) (x .shown) (y .shown) (a .shown) (b .shown) s in
     let ds = maybe-same (x .key) (y .key) (x .draft) (y .draft) (a .draft) (b .draft) d in
-    λ i. record { key = k i; state = o i; shown = ss i; draft = ds i; stamp = tt }
+    λ i. record { key = k i; state = o i; shown = ss i; draft = ds i; stamp = p i }
 
 entries-same : (c d : Entries) → entriesMeet c ≡ true → entriesMeet d ≡ true → length c ≡ length d
-    → map keyIn c ≡ map keyIn d → map onIn c ≡ map onIn d → map shownIn c ≡ map shownIn d → map draftIn c ≡ map draftIn d → c ≡ d
+    → map keyIn c ≡ map keyIn d → map onIn c ≡ map onIn d → map confirmedIn c ≡ map confirmedIn d → map shownIn c ≡ map shownIn d → map draftIn c ≡ map draftIn d → c ≡ d
 unfolding entriesMeet
-entries-same [] [] f g l k o s e = refl
-entries-same [] (y ∷ d) f g l k o s e = absurd (omega arith)
-entries-same (x ∷ c) [] f g l k o s e = absurd (omega arith)
-entries-same (x ∷ c) (y ∷ d) f g l k o s e =
+entries-same [] [] f g l k o p s e = refl
+entries-same [] (y ∷ d) f g l k o p s e = absurd (omega arith)
+entries-same (x ∷ c) [] f g l k o p s e = absurd (omega arith)
+entries-same (x ∷ c) (y ∷ d) f g l k o p s e =
     ap₂ _∷_
-    (entry-same x y (and-left (entryMeets x) (entriesMeet c) f) (and-left (entryMeets y) (entriesMeet d) g) (same-head k) (same-head o) (same-head s) (same-head e))
-    (entries-same c d (and-right (entryMeets x) (entriesMeet c) f) (and-right (entryMeets y) (entriesMeet d) g) (omega arith) (same-tail k) (same-tail o) (same-tail s) (same-tail e))
+    (entry-same x y (and-left (entryMeets x) (entriesMeet c) f) (and-left (entryMeets y) (entriesMeet d) g) (same-head k) (same-head o) (same-head p) (same-head s) (same-head e))
+    (entries-same c d (and-right (entryMeets x) (entriesMeet c) f) (and-right (entryMeets y) (entriesMeet d) g) (omega arith) (same-tail k) (same-tail o) (same-tail p) (same-tail s) (same-tail e))
 
 -- ---- a table
 
@@ -64,5 +64,6 @@ store-injective c d f g e =
     entries-same c d (table-rules c .0 f .entries) (table-rules d .0 g .entries) l
     (padded-same mostKeys 0 (map keyIn c) (map keyIn d) (length-map c keyIn ∙ l ∙ sym (length-map d keyIn)) (ap (λ (t : Sets). t .keys) e))
     (padded-same mostKeys false (map onIn c) (map onIn d) (length-map c onIn ∙ l ∙ sym (length-map d onIn)) (ap (λ (t : Sets). t .on) e))
+    (padded-same mostKeys 0 (map confirmedIn c) (map confirmedIn d) (length-map c confirmedIn ∙ l ∙ sym (length-map d confirmedIn)) (ap (λ (t : Sets). t .confirmed) e))
     (padded-same mostKeys emptyList (map shownIn c) (map shownIn d) (length-map c shownIn ∙ l ∙ sym (length-map d shownIn)) (ap (λ (t : Sets). t .shown) e))
     (padded-same mostKeys emptyList (map draftIn c) (map draftIn d) (length-map c draftIn ∙ l ∙ sym (length-map d draftIn)) (ap (λ (t : Sets). t .draft) e))

@@ -9,7 +9,7 @@ use Rattle.rules.proofs.Entries as Over
 
 -- the entry that stands past the end
 abbrev pub noEntry : Held
-noEntry = record { key = 0; state = false; shown = none; draft = none; stamp = tt }
+noEntry = record { key = 0; state = false; shown = none; draft = none; stamp = 0 }
 
 -- a key stands at its place
 abbrev pub Here : Entries → ℕ → Type 0

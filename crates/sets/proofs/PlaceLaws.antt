@@ -19,7 +19,7 @@ use Rattle.lists.specs.declared.IdList.{IdList}
 use Rattle.lists.specs.Stored.{emptyList}
 use Rattle.lists.proofs.StoredLaws.{holds-facts, holds-long}
 use Rattle.sets.specs.declared.Sets.{Sets}
-use Rattle.sets.specs.Stored.{keyIn, onIn, shownIn, draftIn, storeSets, SetsStored, shutSets, past, EachHolds}
+use Rattle.sets.specs.Stored.{keyIn, onIn, confirmedIn, shownIn, draftIn, storeSets, SetsStored, shutSets, past, EachHolds}
 use Rattle.sets.specs.Places.{placeIn}
 use Rattle.sets.proofs.SetsLaws.{stored-facts}
 use Rattle.sets.proofs.Entries.{noEntry, Here}
@@ -69,9 +69,10 @@ store-shut c i h l =
     length-append (take i c) (drop (suc i) c) ∙ ap₂ _+_ (length-take-le i c (omega arith)) (length-drop (suc i) c) ∙ omega arith in
     let ks = column-shut keyIn mostKeys 0 c i h l in
     let os = column-shut onIn mostKeys false c i h l in
+    let ps = column-shut confirmedIn mostKeys 0 c i h l in
     let ss = column-shut shownIn mostKeys emptyList c i h l in
     let ds = column-shut draftIn mostKeys emptyList c i h l in
-    rw (lt-ltb i mostKeys (omega arith), lt-ltb i (length c) h) (sym (λ j. record { count = n j; keys = ks j; on = os j; shown = ss j; draft = ds j }))
+    rw (lt-ltb i mostKeys (omega arith), lt-ltb i (length c) h) (sym (λ j. record { count = n j; keys = ks j; on = os j; confirmed = ps j; shown = ss j; draft = ds j }))
 
 -- the held key at its place forgotten
 pub store-forgets : (t : Sets) (c : Entries) → t ≡ storeSets c → (k at : ℕ) → at ≡ placeIn (take (t .count) (t .keys)) k → length c ≤ mostKeys → Here c k

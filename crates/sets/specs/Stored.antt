@@ -17,6 +17,10 @@ keyIn e = e .key
 unfoldable pub onIn : Held → Bool
 onIn e = e .state
 
+-- the number of the block at which its set was last shown
+unfoldable pub confirmedIn : Held → ℕ
+confirmedIn e = e .stamp
+
 unfoldable pub shownIn : Held → IdList
 shownIn e = storeMaybe (e .shown)
 
@@ -30,16 +34,17 @@ storeSets c =
       count = length c;
       keys = padded mostKeys 0 (map keyIn c);
       on = padded mostKeys false (map onIn c);
+      confirmed = padded mostKeys 0 (map confirmedIn c);
       shown = padded mostKeys emptyList (map shownIn c);
       draft = padded mostKeys emptyList (map draftIn c);
     }
 
--- sets with other states and lists, and with other open lists alone: the keys, and whatever else there is, stay
-abbrev pub withLists : Sets → List Bool → List IdList → List IdList → Sets
-withLists t on shown draft = record { count = t .count; keys = t .keys; on = on; shown = shown; draft = draft }
+-- sets with other states, numbers and lists, and with other open lists alone: the keys, and whatever else there is, stay
+abbrev pub withLists : Sets → List Bool → List ℕ → List IdList → List IdList → Sets
+withLists t on confirmed shown draft = record { count = t .count; keys = t .keys; on = on; confirmed = confirmed; shown = shown; draft = draft }
 
 abbrev pub withDraft : Sets → List IdList → Sets
-withDraft t draft = withLists t (t .on) (t .shown) draft
+withDraft t draft = withLists t (t .on) (t .confirmed) (t .shown) draft
 
 -- what stands for a list past the end of an array
 abbrev pub past : IdList
@@ -53,6 +58,10 @@ EachHolds keys ls = (i : ℕ) → i < mostKeys → Holds (getD keys i 0) (getD l
 unfoldable pub NoneFrom : ℕ → List IdList → Type 0
 NoneFrom from ls = (i : ℕ) → i < mostKeys → from ≤ i → getD ls i past .len ≡ 0
 
+-- there is no number where there is no list
+unfoldable pub NumbersHold : List ℕ → List IdList → Type 0
+NumbersHold ns ls = (i : ℕ) → i < mostKeys → getD ls i past .len ≡ 0 → getD ns i 0 ≡ 0
+
 -- sets with one key more at a place, its list open and no set shown; the same where there is no such place
 unfoldable pub openedSets : Sets → ℕ → ℕ → Bool → IdList → Sets
 openedSets t at key on l =
@@ -61,6 +70,7 @@ openedSets t at key on l =
       count = t .count + 1;
       keys = opened at key (t .keys);
       on = opened at on (t .on);
+      confirmed = opened at 0 (t .confirmed);
       shown = opened at emptyList (t .shown);
       draft = opened at l (t .draft);
     })
@@ -74,6 +84,7 @@ shutSets t at =
       count = t .count - 1;
       keys = shut at 0 (t .keys);
       on = shut at false (t .on);
+      confirmed = shut at 0 (t .confirmed);
       shown = shut at emptyList (t .shown);
       draft = shut at emptyList (t .draft);
     })

@@ -10,17 +10,19 @@ ghost use Prim.Native.Nat.{_<_};
 ghost use Rattle.rules.specs.Arrays.{opened, shut};
 ghost use Rattle.rules.specs.Collecting.{mostKeys};
 ghost use Rattle.lists.specs.Stored.{Tested, emptyList};
-ghost use Rattle.sets.specs.Stored.{storeSets, EachHolds, NoneFrom, SetsStored, openedSets, shutSets};
+ghost use Rattle.sets.specs.Stored.{storeSets, EachHolds, NoneFrom, NumbersHold, SetsStored, openedSets, shutSets};
 ghost use Rattle.sets.specs.Places.{placeIn, standsAt, keysMeet, allOff};
 ghost use Rattle.sets.specs.Shown.{setsIn};
 use lists::IdList;
 
-// The entries of the held keys, in ascending key order from place 0 on: key, on or off, shown set and
-// open list. Every unused place is zero.
+// The entries of the held keys, in ascending key order from place 0 on: key, on or off, the number of the
+// block at which the set was last shown (0 where none is shown, or none since it was loaded), shown set
+// and open list. Every unused place is zero.
 pub struct Sets {
     pub count: usize,
     pub keys: [u32; Sets::KEYS],
     pub on: [bool; Sets::KEYS],
+    pub confirmed: [u32; Sets::KEYS],
     pub shown: [IdList; Sets::KEYS],
     pub draft: [IdList; Sets::KEYS],
 }
@@ -38,6 +40,7 @@ impl Sets {
             count: 0,
             keys: [0u32; Sets::KEYS],
             on: [false; Sets::KEYS],
+            confirmed: [0u32; Sets::KEYS],
             shown: [none; Sets::KEYS],
             draft: [none; Sets::KEYS],
         }
@@ -111,6 +114,24 @@ fn none_from(from: usize, lists: [IdList; Sets::KEYS]) -> bool
     true
 }
 
+// Whether no number stands where there is no list.
+fn numbers_meet(numbers: &[u32], lists: [IdList; Sets::KEYS]) -> bool
+    requires { ⌜ length (now numbers) ≡ mostKeys ⌝ }
+    ensures { λ r. ⌜ Tested r (NumbersHold (now (numbers .entry)) lists) ⌝ }
+{
+    let mut i = 0;
+    while i < Sets::KEYS {
+        let list = lists[i];
+        if list.len == 0 {
+            if numbers[i] != 0 {
+                return false;
+            }
+        }
+        i += 1;
+    }
+    true
+}
+
 impl Sets {
     // Whether this is the stored form of sets that meet their rules.
     pub fn meets(self) -> bool
@@ -136,6 +157,9 @@ impl Sets {
             return false;
         }
         if !none_from(count, shown) {
+            return false;
+        }
+        if !numbers_meet(&self.confirmed, shown) {
             return false;
         }
         if !lists_meet(keys, draft) {
@@ -278,12 +302,14 @@ impl Sets {
         }
         let keys = self.keys;
         let flags = self.on;
+        let confirmed = self.confirmed;
         let shown = self.shown;
         let draft = self.draft;
         Self {
             count: count + 1,
             keys: open_u32(keys, at, key),
             on: open_flag(flags, at, on),
+            confirmed: open_u32(confirmed, at, 0),
             shown: open_list(shown, at, IdList::empty()),
             draft: open_list(draft, at, list),
         }
@@ -304,12 +330,14 @@ impl Sets {
         }
         let keys = self.keys;
         let flags = self.on;
+        let confirmed = self.confirmed;
         let shown = self.shown;
         let draft = self.draft;
         Self {
             count: count - 1,
             keys: shut_u32(keys, at),
             on: shut_flag(flags, at),
+            confirmed: shut_u32(confirmed, at),
             shown: shut_list(shown, at),
             draft: shut_list(draft, at),
         }

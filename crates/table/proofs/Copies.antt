@@ -57,7 +57,7 @@ module _ (n : ℕ) (from to : List ℕ) (hf : n ≤ length from) (ht : n ≤ len
 
 -- is what the rules hand out of it
 pub copy-stored : (key : ℕ) (e : Held) (o : Option IdSet) (ns ks : List ℕ) → ifThere key o ≡ true
-    → copyStored (storeMaybe o) (e .key) (e .state) ns ks ≡ copySet e o ns ks
+    → copyStored (storeMaybe o) (e .key) (e .state) (e .stamp) ns ks ≡ copySet e o ns ks
 unfolding copyStored copySet storeMaybe storeList emptyList
 copy-stored key e none ns ks m = refl
 copy-stored key e (some l) ns ks m =
@@ -73,6 +73,7 @@ copy-stored key e (some l) ns ks m =
       key = e .key;
       on = e .state;
       named = l .named;
+      confirmed = e .stamp;
       count = n;
       numbers = overwritten (a i) ns;
       kinds = overwritten (b i) ks;

@@ -1,3 +1,4 @@
 -- The laws above the definitions of specs/.
 pub mod Copies
+pub mod Numbers
 pub mod GivenLaws

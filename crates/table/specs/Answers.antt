@@ -1,9 +1,9 @@
 -- What forgetting and copying out answer, by the definitions of crate rules.
 use Prim.Native.Nat.{ℕ}
-use mathlib.Core.Bool.{Bool, cond, _||_}
-use mathlib.Core.List.{List}
+use mathlib.Core.Bool.{Bool, true, cond, _&&_, _||_}
+use mathlib.Core.List.{List, [], _∷_}
 use lib.ListN.{length, take}
-use lib.Dec.{ltb, eqb}
+use lib.Dec.{leb, ltb, eqb}
 use Rattle.rules.specs.declared.Outcome.the-variants.{Done, NotShown, ShortBuffer}
 use Rattle.rules.specs.Collecting.{Content}
 use Rattle.rules.specs.Outcomes as Outcomes
@@ -20,13 +20,18 @@ forgottenAs k c = record { outcome = forgetOutcome k c; table = storeTable (forg
 -- the answer and both buffers as one
 unfoldable pub copiedAs : Copied → List ℕ → List ℕ → Outcomes.Copied
 copiedAs r numbers kinds =
-    record { outcome = r .outcome; key = r .key; on = r .on; named = r .named; count = r .count; numbers = numbers; kinds = kinds }
+    record { outcome = r .outcome; key = r .key; on = r .on; named = r .named; confirmed = r .confirmed; count = r .count; numbers = numbers; kinds = kinds }
 
 -- ---- inside
 
--- what is handed out of a stored list, for a key and its state: 11 where there is none, 8 where a buffer is too short
-unfoldable pub copyStored : IdList → ℕ → Bool → List ℕ → List ℕ → Outcomes.Copied
-copyStored s k on ns ks =
+-- no number is above another
+unfoldable pub allWithin : ℕ → List ℕ → Bool
+allWithin most [] = true
+allWithin most (n ∷ ns) = leb n most && allWithin most ns
+
+-- what is handed out of a stored list, for a key, its state and its number: 11 where there is none, 8 where a buffer is too short
+unfoldable pub copyStored : IdList → ℕ → Bool → ℕ → List ℕ → List ℕ → Outcomes.Copied
+copyStored s k on confirmed ns ks =
     cond (eqb (s .len) 0) (notCopied NotShown ns ks)
     (cond (ltb (length ns) (s .len) || ltb (length ks) (s .len)) (notCopied ShortBuffer ns ks)
     (record {
@@ -34,6 +39,7 @@ copyStored s k on ns ks =
       key = k;
       on = on;
       named = s .named;
+      confirmed = confirmed;
       count = s .len;
       numbers = overwritten (take (s .len) (s .numbers)) ns;
       kinds = overwritten (take (s .len) (s .kinds)) ks;

@@ -1,4 +1,5 @@
 -- The one stored form of a table's content (document 01, Collecting), and what a function owes of a table that it is given.
+use Prim.Native.Nat.{ℕ}
 use mathlib.Core.Path.{_≡_}
 use mathlib.Core.Bool.{true}
 use Rattle.rules.specs.Collecting.{Content, meets}
@@ -8,13 +9,13 @@ use Rattle.totals.specs.declared.Totals.{Totals}
 use Rattle.totals.specs.Totals.{totalsOf}
 use Rattle.table.specs.declared.Table.{Table}
 
--- a table with these sets and totals and nothing else
-abbrev pub tableOf : Sets → Totals → Table
-tableOf s n = record { sets = s; totals = n }
+-- a table with these sets, totals and blocks, and nothing else
+abbrev pub tableOf : Sets → Totals → ℕ → Table
+tableOf s n b = record { sets = s; totals = n; blocks = b }
 
--- a content: its sets, and the sums over those that it shows
+-- a content: its sets, the sums over those that it shows, and its count of blocks
 abbrev pub storeTable : Content → Table
-storeTable c = record { sets = storeSets (c .sets); totals = totalsOf c }
+storeTable c = record { sets = storeSets (c .sets); totals = totalsOf c; blocks = c .blocks }
 
 -- a table is the stored form of a content that meets the rules
 unfoldable pub Stored : Table → Type 0

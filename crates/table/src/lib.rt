@@ -1,5 +1,5 @@
 // The table of linkage sets (document 01, Collecting): its limits, its empty table, the test of the table rules, its totals
-// (document 02, R-7), forgetting a key and copying a set out. Every function is proved and none that is `pub` has a `requires`. The stored form is storeTable of
+// (document 02, R-7), its count of blocks (R-9), forgetting a key and copying a set out. Every function is proved and none that is `pub` has a `requires`. The stored form is storeTable of
 // specs/Stored.antt; what a table may hold is `meets` of crate rules.
 
 ghost use mathlib.Core.Path.{_≡_};
@@ -11,16 +11,31 @@ ghost use Rattle.rules.specs.Outcomes.{copyOut, notCopied, overwritten};
 ghost use Rattle.lists.specs.Stored.{Tested};
 ghost use Rattle.totals.specs.Totals.{totalsOf, noTotals};
 ghost use Rattle.table.specs.Stored.{tableOf, storeTable, Stored, Given};
-ghost use Rattle.table.specs.Answers.{forgottenAs, copiedAs, copyStored};
+ghost use Rattle.table.specs.Answers.{forgottenAs, copiedAs, allWithin, copyStored};
 use lists::IdList;
 use rules::Outcome;
 use sets::Sets;
 use totals::Totals;
 
-// What a table holds: its sets, and the totals of those that it shows.
+// What a table holds: its sets, the totals of those that it shows, and how many blocks were read into it.
 pub struct Table {
     pub sets: Sets,
     pub totals: Totals,
+    pub blocks: u32,
+}
+
+// Whether none of these numbers is above another.
+fn all_within(numbers: &[u32], most: u32) -> bool
+    ensures { λ r. ⌜ r ≡ allWithin most (now (numbers .entry)) ⌝ }
+{
+    let mut i = 0;
+    while i < numbers.len() {
+        if most < numbers[i] {
+            return false;
+        }
+        i += 1;
+    }
+    true
 }
 
 impl Table {
@@ -28,19 +43,25 @@ impl Table {
     pub const KEYS: usize = Sets::KEYS;
     // The identifiers that a set holds at most.
     pub const IDENTIFIERS: usize = IdList::MOST;
+    // The number at which its count of blocks stops.
+    pub const BLOCKS: u32 = 4294967295;
 
-    // The table with these sets and totals and nothing else.
-    pub fn of(sets: Sets, totals: Totals) -> Self
-        ensures { λ r. ⌜ r ≡ tableOf sets totals ⌝ }
+    // The table with these sets, totals and blocks and nothing else.
+    pub fn of(sets: Sets, totals: Totals, blocks: u32) -> Self
+        ensures { λ r. ⌜ r ≡ tableOf sets totals blocks ⌝ }
     {
-        Self { sets, totals }
+        Self {
+            sets,
+            totals,
+            blocks,
+        }
     }
 
     // The table that holds nothing.
     pub fn empty() -> Self
         ensures { λ r. ⌜ r ≡ storeTable nothing ⌝ }
     {
-        Self::of(Sets::empty(), Totals::none())
+        Self::of(Sets::empty(), Totals::none(), 0)
     }
 
     // Whether this is the stored form of a content that meets the table rules.
@@ -49,6 +70,9 @@ impl Table {
     {
         let sets = self.sets;
         if !sets.meets() {
+            return false;
+        }
+        if !all_within(&sets.confirmed, self.blocks) {
             return false;
         }
         let totals = self.totals;
@@ -116,7 +140,7 @@ pub fn forget_key(table: Table, key: u32) -> Forgotten
     let rest = totals.without(gone.len, sets.on[at]);
     Forgotten {
         outcome: Outcome::Done,
-        table: Table::of(left, rest),
+        table: Table::of(left, rest, table.blocks),
     }
 }
 
@@ -146,32 +170,42 @@ fn copy_u8(from: &[u8], n: usize, to: &mut [u8])
     }
 }
 
-// What copying a set out answers; the identifiers go into the lent buffers.
+// What copying a set out answers: `confirmed` is the number of the block at which the set was last shown, 0 for none since it was
+// loaded. The identifiers go into the lent buffers.
 pub struct Copied {
     pub outcome: Outcome,
     pub key: u32,
     pub on: bool,
     pub named: u8,
+    pub confirmed: u32,
     pub count: usize,
 }
 
 // The answer where nothing is copied.
 fn not_copied(outcome: Outcome) -> Copied
-    ensures { λ r. ⌜ r ≡ record { outcome = outcome; key = 0; on = Bool.false; named = 0; count = 0 } ⌝ }
+    ensures { λ r. ⌜ r ≡ record { outcome = outcome; key = 0; on = Bool.false; named = 0; confirmed = 0; count = 0 } ⌝ }
 {
     Copied {
         outcome,
         key: 0,
         on: false,
         named: 0,
+        confirmed: 0,
         count: 0,
     }
 }
 
 // Copies a set out, where there is one: 11 and 8 (either buffer), with both as they were.
-fn copy_set(set: IdList, key: u32, on: bool, numbers: &mut [u32], kinds: &mut [u8]) -> Copied
+fn copy_set(
+    set: IdList,
+    key: u32,
+    on: bool,
+    confirmed: u32,
+    numbers: &mut [u32],
+    kinds: &mut [u8],
+) -> Copied
     requires { ⌜ (set .len ≤ length (set .numbers)) × (set .len ≤ length (set .kinds)) ⌝ }
-    ensures { λ r. ⌜ copiedAs r (now (numbers .exit)) (now (kinds .exit)) ≡ copyStored set key on (now (numbers .entry)) (now (kinds .entry)) ⌝ }
+    ensures { λ r. ⌜ copiedAs r (now (numbers .exit)) (now (kinds .exit)) ≡ copyStored set key on confirmed (now (numbers .entry)) (now (kinds .entry)) ⌝ }
 {
     let len = set.len;
     if len == 0 {
@@ -190,11 +224,12 @@ fn copy_set(set: IdList, key: u32, on: bool, numbers: &mut [u32], kinds: &mut [u
         key,
         on,
         named: set.named,
+        confirmed,
         count: len,
     }
 }
 
-// Copies a shown set out: its key, on or off, named kinds and count, the numbers and the kinds of its
+// Copies a shown set out: its key, on or off, named kinds, the number of its block and count, the numbers and the kinds of its
 // identifiers to the front of two lent buffers. 9, then 7, 11 and 8 (either buffer), with both as they were.
 pub fn copy_out(table: Table, key: u32, numbers: &mut [u32], kinds: &mut [u8]) -> Copied
     ensures { λ r. ⌜ Given table
@@ -211,5 +246,12 @@ pub fn copy_out(table: Table, key: u32, numbers: &mut [u32], kinds: &mut [u8]) -
         return not_copied(Outcome::NotHeld);
     }
     let set = sets.shown[at];
-    copy_set(set, key, sets.on[at], numbers, kinds)
+    copy_set(
+        set,
+        key,
+        sets.on[at],
+        sets.confirmed[at],
+        numbers,
+        kinds,
+    )
 }

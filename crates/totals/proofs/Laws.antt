@@ -16,7 +16,7 @@ use Rattle.rules.specs.Block.{bit}
 use Rattle.rules.specs.Family.{insert, forget, dropOpen, closed, entryWith}
 use Rattle.rules.specs.Collecting.{linkage, IdSet, Held, Entries, Content, ifThere, entryMeets, entriesMeet, setsMeet, meets, Shown, showing, shownSets, mostKeys, mostIds}
 use Rattle.rules.proofs.Basics.{cases-bool, cases-option, and-left, and-right, and-three, bit-small}
-use Rattle.rules.proofs.TableRules.{lawful, set-rules, entry-rules, table-rules, shown-few}
+use Rattle.rules.proofs.TableRules.{lawful, set-rules, entry-rules, table-rules, sets-meet, shown-few}
 use Rattle.rules.proofs.Entries.{placeOf, insert-here, forget-here, column-at}
 use Rattle.lists.specs.Stored.{storeList, emptyList, storeMaybe}
 use Rattle.lists.proofs.StoredLaws.{not-none}
@@ -157,7 +157,7 @@ pub totals-most : (c : Content) → meets c ≡ true
     → (totalsOf c .shown ≤ mostKeys) × (totalsOf c .on ≤ totalsOf c .shown) × (totalsOf c .identifiers ≤ mostKeys * mostIds)
 unfolding totalsOf sums
 totals-most c m =
-    let r = table-rules (c .sets) .0 m in
+    let r = table-rules (c .sets) .0 (sets-meet c m) in
     let s = sums-most (c .sets) (r .entries) in
     (omega (arith, r .short, shown-few (c .sets)), s .0, omega (arith, r .short, s .1))
 

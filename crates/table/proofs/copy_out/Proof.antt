@@ -67,9 +67,15 @@ element-copy-out-set c = short c
 element-copy-out-copy-set : tie.Need-element-copy-out-copy-set
 element-copy-out-copy-set c = short (c .before)
 
+mul-copy-set : tie.Need-mul-copy-set
+mul-copy-set c = let w = short (c .before .before) in omega arith
+
+element-copy-out-copy-set-2 : tie.Need-element-copy-out-copy-set-2
+element-copy-out-copy-set-2 c = short (c .before .before)
+
 copy-set-requires : tie.Need-copy-set-requires
 copy-set-requires c κs =
-    let h = c .before .before .before .before in
+    let h = c .before .before .before .before .before in
     let s = h .before in
     let r = stands-shown (given s .args .table) (tested s .before .meets .ensures) (not-false _ (tested s .if1 .left)) _ _ (sym (s .stands-at .ensures) ∙ not-false _ (h .if2 .left)) in
     (omega (arith, r .short, r .numbers-long), omega (arith, r .short, r .kinds-long))
@@ -82,7 +88,7 @@ same-length-2 c = search needs
 
 returns-3 : tie.Need-returns-3
 returns-3 c =
-    let h = c .before .before .before .before .before .before .before .before .before in
+    let h = c .before .before .before .before .before .before .before .before .before .before in
     let s = h .before in
     given-right (tested s .before .meets .ensures) (not-false _ (tested s .if1 .left)) (λ d m e.
     c .before .before .before .before .copy-set .ensures
@@ -102,6 +108,8 @@ copy-out-spec =
     mul-set
     element-copy-out-set
     element-copy-out-copy-set
+    mul-copy-set
+    element-copy-out-copy-set-2
     copy-set-requires
     same-length
     same-length-2

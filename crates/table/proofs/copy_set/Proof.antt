@@ -50,7 +50,7 @@ returns-4 : tie.Need-returns-4
 unfolding copyStored copiedAs
 returns-4 c =
     rw (ne-eqb _ _ (c .before .before .before .before .before .before .before .before .before .before .before .before .before .before .before .before .if1 .left), le-ltb _ _ (c .before .before .before .before .before .before .before .before .before .before .before .before .before .before .before .if2 .left), le-ltb _ _ (c .before .before .before .before .before .before .before .before .before .before .before .before .before .before .if3 .left))
-    (λ i. record { outcome = Done; key = c .before .before .before .before .before .before .before .before .before .before .before .before .before .before .before .before .before .before .before .args .key; on = c .before .before .before .before .before .before .before .before .before .before .before .before .before .before .before .before .before .before .before .args .on; named = c .before .before .before .before .before .before .before .before .before .before .before .before .before .before .before .before .before .before .before .args .t1 .named; count = c .before .before .before .before .before .before .before .before .before .before .before .before .before .before .before .before .before .before .before .args .t1 .len; numbers = c .before .before .before .before .before .before .before .before .before .copy-u32 .ensures i; kinds = c .before .before .copy-u8 .ensures i })
+    (λ i. record { outcome = Done; key = c .before .before .before .before .before .before .before .before .before .before .before .before .before .before .before .before .before .before .before .args .key; on = c .before .before .before .before .before .before .before .before .before .before .before .before .before .before .before .before .before .before .before .args .on; named = c .before .before .before .before .before .before .before .before .before .before .before .before .before .before .before .before .before .before .before .args .t1 .named; confirmed = c .before .before .before .before .before .before .before .before .before .before .before .before .before .before .before .before .before .before .before .args .confirmed; count = c .before .before .before .before .before .before .before .before .before .before .before .before .before .before .before .before .before .before .before .args .t1 .len; numbers = c .before .before .before .before .before .before .before .before .before .copy-u32 .ensures i; kinds = c .before .before .copy-u8 .ensures i })
 
 pub copy-set-spec : {M : Type 1} → statement M
 copy-set-spec =

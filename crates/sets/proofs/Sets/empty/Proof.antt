@@ -13,7 +13,7 @@ use Rattle.sets.proofs.Sets.empty.Tie as tie
 
 -- no entries, with this list in every place
 abbrev around : IdList → Sets
-around l = record { count = 0; keys = replicate mostKeys 0; on = replicate mostKeys false; shown = replicate mostKeys l; draft = replicate mostKeys l }
+around l = record { count = 0; keys = replicate mostKeys 0; on = replicate mostKeys false; confirmed = replicate mostKeys 0; shown = replicate mostKeys l; draft = replicate mostKeys l }
 
 empty-requires : tie.Need-empty-requires
 empty-requires c κs = search needs

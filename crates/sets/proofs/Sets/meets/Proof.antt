@@ -18,6 +18,13 @@ use Rattle.sets.proofs.all_off.Reads as all-off-reads
 use Rattle.sets.proofs.keys_meet.Reads as keys-meet-reads
 use Rattle.sets.proofs.lists_meet.Reads as lists-meet-reads
 use Rattle.sets.proofs.none_from.Reads as none-from-reads
+use Rattle.sets.proofs.numbers_meet.Reads as numbers-meet-reads
+
+-- the given arrays have 32 places
+arrays : (c : tie.Start)
+    → (length (c .args .t1 .keys) ≡ mostKeys) × (length (c .args .t1 .on) ≡ mostKeys) × (length (c .args .t1 .confirmed) ≡ mostKeys)
+    × (length (c .args .t1 .shown) ≡ mostKeys) × (length (c .args .t1 .draft) ≡ mostKeys)
+arrays c = (search needs, search needs, search needs, search (length-of-map, needs), search (length-of-map, needs))
 
 returns : tie.Need-returns
 returns c = refuted _ (λ s. omega (arith, stored-facts _ s .short))
@@ -52,33 +59,37 @@ none-from-requires c κs = search needs
 returns-6 : tie.Need-returns-6
 returns-6 c = refuted _ (λ s. fails refl (not-true _ (c .if6 .taken)) (c .before .none-from .ensures .complete (stored-facts _ s .shown-end)))
 
+numbers-meet-requires : tie.Need-numbers-meet-requires
+numbers-meet-requires c κs = search needs
+
+returns-7 : tie.Need-returns-7
+returns-7 c = refuted _ (λ s. fails refl (not-true _ (c .if7 .taken)) (c .before .numbers-meet .ensures .complete (stored-facts _ s .numbers-hold)))
+
 lists-meet-requires-2 : tie.Need-lists-meet-requires-2
 lists-meet-requires-2 c κs = search needs
 
-returns-7 : tie.Need-returns-7
-returns-7 c = refuted _ (λ s. fails refl (not-true _ (c .if7 .taken)) (c .before .lists-meet2 .ensures .complete (stored-facts _ s .draft-hold)))
+returns-8 : tie.Need-returns-8
+returns-8 c = refuted _ (λ s. fails refl (not-true _ (c .if8 .taken)) (c .before .lists-meet2 .ensures .complete (stored-facts _ s .draft-hold)))
 
 none-from-requires-2 : tie.Need-none-from-requires-2
 none-from-requires-2 c κs = search needs
 
-returns-8 : tie.Need-returns-8
-returns-8 c =
-    let kl : length (c .before .before .before .before .before .before .before .before .before .before .before .before .before .before .before .before .before .before .before .before .before .before .before .before .before .before .args .t1 .keys) ≡ mostKeys = search needs in
-    let ol : length (c .before .before .before .before .before .before .before .before .before .before .before .before .before .before .before .before .before .before .before .before .before .before .before .before .before .before .args .t1 .on) ≡ mostKeys = search needs in
-    let sl : length (c .before .before .before .before .before .before .before .before .before .before .before .before .before .before .before .before .before .before .before .before .before .before .before .before .before .before .args .t1 .shown) ≡ mostKeys = search (length-of-map, needs) in
-    let dl : length (c .before .before .before .before .before .before .before .before .before .before .before .before .before .before .before .before .before .before .before .before .before .before .before .before .before .before .args .t1 .draft) ≡ mostKeys = search (length-of-map, needs) in
+returns-9 : tie.Need-returns-9
+returns-9 c =
+    let long = arrays (c .before .before .before .before .before .before .before .before .before .before .before .before .before .before .before .before .before .before .before .before .before .before .before .before .before .before .before .before .before .before .before) in
     record {
       sound = λ e. facts-stored _
           (record {
-            short = c .before .before .before .before .before .before .before .before .before .before .before .before .before .before .before .before .before .before .before .before .before .before .before .before .before .if1 .left;
-            keys-meet = sym (c .before .before .before .before .before .before .before .before .before .before .before .before .before .before .before .before .before .before .before .before .before .keys-meet .ensures) ∙ not-false _ (c .before .before .before .before .before .before .before .before .before .before .before .before .before .before .before .before .before .before .before .before .if2 .left);
-            keys-end = sym (c .before .before .before .before .before .before .before .before .before .before .before .before .before .before .before .before .zeros-u32 .ensures) ∙ not-false _ (c .before .before .before .before .before .before .before .before .before .before .before .before .before .before .before .if3 .left);
-            on-end = sym (c .before .before .before .before .before .before .before .before .before .before .before .all-off .ensures) ∙ not-false _ (c .before .before .before .before .before .before .before .before .before .before .if4 .left);
-            shown-hold = c .before .before .before .before .before .before .lists-meet .ensures .sound (not-false _ (c .before .before .before .before .before .if5 .left));
-            shown-end = c .before .before .before .before .none-from .ensures .sound (not-false _ (c .before .before .before .if6 .left));
-            draft-hold = c .before .before .lists-meet2 .ensures .sound (not-false _ (c .before .if7 .left));
+            short = c .before .before .before .before .before .before .before .before .before .before .before .before .before .before .before .before .before .before .before .before .before .before .before .before .before .before .before .before .before .before .if1 .left;
+            keys-meet = sym (c .before .before .before .before .before .before .before .before .before .before .before .before .before .before .before .before .before .before .before .before .before .before .before .before .before .before .keys-meet .ensures) ∙ not-false _ (c .before .before .before .before .before .before .before .before .before .before .before .before .before .before .before .before .before .before .before .before .before .before .before .before .before .if2 .left);
+            keys-end = sym (c .before .before .before .before .before .before .before .before .before .before .before .before .before .before .before .before .before .before .before .before .before .zeros-u32 .ensures) ∙ not-false _ (c .before .before .before .before .before .before .before .before .before .before .before .before .before .before .before .before .before .before .before .before .if3 .left);
+            on-end = sym (c .before .before .before .before .before .before .before .before .before .before .before .before .before .before .before .before .all-off .ensures) ∙ not-false _ (c .before .before .before .before .before .before .before .before .before .before .before .before .before .before .before .if4 .left);
+            shown-hold = c .before .before .before .before .before .before .before .before .before .before .before .lists-meet .ensures .sound (not-false _ (c .before .before .before .before .before .before .before .before .before .before .if5 .left));
+            shown-end = c .before .before .before .before .before .before .before .before .before .none-from .ensures .sound (not-false _ (c .before .before .before .before .before .before .before .before .if6 .left));
+            numbers-hold = c .before .before .before .before .numbers-meet .ensures .sound (not-false _ (c .before .before .before .if7 .left));
+            draft-hold = c .before .before .lists-meet2 .ensures .sound (not-false _ (c .before .if8 .left));
             draft-end = c .none-from2 .ensures .sound e;
-          }) kl ol sl dl;
+          }) (long .0) (long .1) (long .2) (long .3) (long .4);
       complete = λ s. c .none-from2 .ensures .complete (stored-facts _ s .draft-end);
     }
 
@@ -97,7 +108,9 @@ meets-spec =
     returns-5
     none-from-requires
     returns-6
-    lists-meet-requires-2
+    numbers-meet-requires
     returns-7
+    lists-meet-requires-2
+    returns-8
     none-from-requires-2
-    returns-8)
+    returns-9)

@@ -22,14 +22,17 @@ returns-2 : tie.Need-returns-2
 unfolding openedSets
 returns-2 c = rw (lt-ltb _ _ (c .before .if1 .left), le-ltb _ _ (c .if2 .taken))
 
-add-t12 : tie.Need-add-t12
-add-t12 c = search needs
+add-t13 : tie.Need-add-t13
+add-t13 c = search needs
 
 open-u32-requires : tie.Need-open-u32-requires
 open-u32-requires c κs = search needs
 
 open-flag-requires : tie.Need-open-flag-requires
 open-flag-requires c κs = search needs
+
+open-u32-requires-2 : tie.Need-open-u32-requires-2
+open-u32-requires-2 c κs = search needs
 
 empty-requires : tie.Need-empty-requires
 empty-requires c κs = search needs
@@ -42,8 +45,8 @@ open-list-requires-2 c κs = search needs
 
 returns-3 : tie.Need-returns-3
 unfolding openedSets
-returns-3 c = rw (lt-ltb _ _ (c .before .before .before .before .before .before .before .before .before .before .if1 .left), lt-ltb _ _ (c .before .before .before .before .before .before .before .before .before .if2 .left))
-    (λ i. record { count = c .before .before .before .before .before .before .before .before .before .before .before .args .self .count + 1; keys = c .before .before .before .before .open-u32 .ensures i; on = c .before .before .before .open-flag .ensures i; shown = (c .before .open-list .ensures ∙ ap (λ l. opened (c .before .before .before .before .before .before .before .before .before .before .before .args .at) l (c .before .before .before .before .before .before .before .before .before .before .before .args .self .shown)) (c .before .before .empty .ensures)) i; draft = c .open-list2 .ensures i })
+returns-3 c = rw (lt-ltb _ _ (c .before .before .before .before .before .before .before .before .before .before .before .before .if1 .left), lt-ltb _ _ (c .before .before .before .before .before .before .before .before .before .before .before .if2 .left))
+    (λ i. record { count = c .before .before .before .before .before .before .before .before .before .before .before .before .before .args .self .count + 1; keys = c .before .before .before .before .before .open-u32 .ensures i; on = c .before .before .before .before .open-flag .ensures i; confirmed = c .before .before .before .open-u322 .ensures i; shown = (c .before .open-list .ensures ∙ ap (λ l. opened (c .before .before .before .before .before .before .before .before .before .before .before .before .before .args .at) l (c .before .before .before .before .before .before .before .before .before .before .before .before .before .args .self .shown)) (c .before .before .empty .ensures)) i; draft = c .open-list2 .ensures i })
 
 pub opened-at-spec : {M : Type 1} → statement M
 opened-at-spec =
@@ -51,9 +54,10 @@ opened-at-spec =
     (tie.spec
     returns
     returns-2
-    add-t12
+    add-t13
     open-u32-requires
     open-flag-requires
+    open-u32-requires-2
     empty-requires
     open-list-requires
     open-list-requires-2

@@ -19,14 +19,17 @@ returns-2 : tie.Need-returns-2
 unfolding shutSets
 returns-2 c = rw (lt-ltb _ _ (c .before .if1 .left), le-ltb _ _ (c .if2 .taken))
 
-sub-t9 : tie.Need-sub-t9
-sub-t9 c = search needs
+sub-t10 : tie.Need-sub-t10
+sub-t10 c = search needs
 
 shut-u32-requires : tie.Need-shut-u32-requires
 shut-u32-requires c κs = search needs
 
 shut-flag-requires : tie.Need-shut-flag-requires
 shut-flag-requires c κs = search needs
+
+shut-u32-requires-2 : tie.Need-shut-u32-requires-2
+shut-u32-requires-2 c κs = search needs
 
 shut-list-requires : tie.Need-shut-list-requires
 shut-list-requires c κs = search needs
@@ -36,8 +39,8 @@ shut-list-requires-2 c κs = search needs
 
 returns-3 : tie.Need-returns-3
 unfolding shutSets
-returns-3 c = rw (lt-ltb _ _ (c .before .before .before .before .before .before .before .before .before .if1 .left), lt-ltb _ _ (c .before .before .before .before .before .before .before .before .if2 .left))
-    (λ i. record { count = c .before .before .before .before .before .before .before .before .before .before .args .self .count - 1; keys = c .before .before .before .shut-u32 .ensures i; on = c .before .before .shut-flag .ensures i; shown = c .before .shut-list .ensures i; draft = c .shut-list2 .ensures i })
+returns-3 c = rw (lt-ltb _ _ (c .before .before .before .before .before .before .before .before .before .before .before .if1 .left), lt-ltb _ _ (c .before .before .before .before .before .before .before .before .before .before .if2 .left))
+    (λ i. record { count = c .before .before .before .before .before .before .before .before .before .before .before .before .args .self .count - 1; keys = c .before .before .before .before .shut-u32 .ensures i; on = c .before .before .before .shut-flag .ensures i; confirmed = c .before .before .shut-u322 .ensures i; shown = c .before .shut-list .ensures i; draft = c .shut-list2 .ensures i })
 
 pub shut-at-spec : {M : Type 1} → statement M
 shut-at-spec =
@@ -45,9 +48,10 @@ shut-at-spec =
     (tie.spec
     returns
     returns-2
-    sub-t9
+    sub-t10
     shut-u32-requires
     shut-flag-requires
+    shut-u32-requires-2
     shut-list-requires
     shut-list-requires-2
     returns-3)

@@ -18,7 +18,7 @@ of-requires c κs = search needs
 
 returns : tie.Need-returns
 unfolding totalsOf sums sumOf shownSets
-returns c = c .of .ensures ∙ ap₂ tableOf (c .before .before .empty .ensures) (c .before .none .ensures)
+returns c = c .of .ensures ∙ ap₂ (λ s n. tableOf s n 0) (c .before .before .empty .ensures) (c .before .none .ensures)
 
 pub empty-spec : {M : Type 1} → statement M
 empty-spec = tie.close (tie.spec empty-requires none-requires of-requires returns)
