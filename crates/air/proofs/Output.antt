@@ -23,8 +23,8 @@ use Rattle.table.specs.declared.Table.{Table}
 use Rattle.table.specs.Stored.{Stored, stored, notStored}
 use Rattle.table.proofs.GivenLaws.{sets-are}
 use Rattle.sets.specs.Stored.{storeSets, past}
-use Rattle.sets.specs.Shown.{setIn, shownAs, setsFrom, setsIn}
-use Rattle.sets.proofs.ShownLaws.{shownAt, sets-skip, sets-next, sets-end, sets-stored}
+use Rattle.sets.specs.Shown.{setIn, shownAs, shownAt, setsFrom, setsIn}
+use Rattle.sets.proofs.ShownLaws.{sets-skip, sets-next, sets-end, sets-stored}
 use Rattle.out.specs.Put.{Puts}
 use Rattle.out.specs.Answer.{writtenAs, Outputs}
 use Rattle.out.proofs.Runs.{puts-as}

@@ -9,8 +9,8 @@ use lib.ListN.{length, getD, length-append}
 use Rattle.rules.specs.Collecting.{Content, Shown, meets}
 use Rattle.sets.specs.declared.Sets.{Sets}
 use Rattle.sets.specs.Stored.{storeSets, past}
-use Rattle.sets.specs.Shown.{setsFrom, setsIn}
-use Rattle.sets.proofs.ShownLaws.{shownAt, sets-next, sets-stored}
+use Rattle.sets.specs.Shown.{shownAt, setsFrom, setsIn}
+use Rattle.sets.proofs.ShownLaws.{sets-next, sets-stored}
 use Rattle.columns.specs.Columns.{rowsOf, rowsText, ruleText, headingText, setsText, columns}
 
 pub text-next : (csv : Bool) (t : Sets) (i n : ℕ) → i < n → (getD (t .shown) i past .len ≡ 0 → ⊥)

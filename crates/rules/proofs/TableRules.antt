@@ -4,17 +4,17 @@
 use Prim.Native.Nat.{ℕ, _/_, _%_, _^_, _≤_, _<_, max}
 use native.Mathlib.Nat.{pow-le-pow-right}
 use native.Mathlib.Omega.{arith}
-use mathlib.Core.Path.{_≡_, refl, sym}
+use mathlib.Core.Path.{_≡_, refl, sym, ap}
 use mathlib.Core.Logic.{_↔_}
 use mathlib.Core.Bool.{Bool, true, false, not, _&&_, _||_}
-use mathlib.Core.List.{List, [], _∷_, _++_}
+use mathlib.Core.List.{List, [], _∷_, _++_, map}
 use mathlib.Core.Option.{Option, none, some}
 use lib.ListN.{length}
 use lib.Dec.{leb, ltb, eqb}
 use borrow.Author.Tests.{ltb-true, ltb-false, leb-true, eqb-true, eqb-false, lt-ltb, le-leb, eq-eqb, ne-eqb}
 use Rattle.rules.specs.Field.{Pair, firstKind, width, dab, rds, drm}
 use Rattle.rules.specs.Family.{member, heldMeets}
-use Rattle.rules.specs.Collecting.{samePair, joinNames, linkage, IdSet, Held, Entries, Content, Shown, isKey, linkageRules, keyWidth, allDiffer, notEmpty, oeOf, firstOf, mayBegin, beginsRight, kindNamed, pairsMeet, namesMeet, setMeets, ifThere, entryMeets, ascends, entriesMeet, numberMeets, setsMeet, numbersWithin, meets, showing, shownSets, mostKeys, mostIds, mostBlocks}
+use Rattle.rules.specs.Collecting.{samePair, joinNames, linkage, IdSet, Held, Entries, Content, Shown, isKey, linkageRules, keyWidth, allDiffer, notEmpty, oeOf, firstOf, mayBegin, beginsRight, kindNamed, pairsMeet, namesMeet, setMeets, ifThere, entryMeets, ascends, entriesMeet, numberMeets, setsMeet, numbersWithin, meets, showing, shownSets, Confirmed, confirming, confirmedSets, mostKeys, mostIds, mostBlocks}
 use Rattle.rules.proofs.Basics.{cases-bool, cases-option, and-left, and-right, and-both, and-three, and-four, and-six, or-cases, true-false, not-true, true-not, cond-both, eqb-self, ltb-self, ltb-trans, ltb-or, Every}
 use Rattle.rules.proofs.FamilyLaws.{Lawful, Different}
 use Rattle.rules.proofs.FamilyRules.{items-differ, items-before, Means, HeldMeets, TableMeets, table-means}
@@ -359,6 +359,16 @@ shown-few [] = omega arith
 shown-few (e ∷ es) =
     let rest = shown-few es in
     cases-option (e .shown) (λ g. rw g (omega arith)) (λ l g. rw g (omega arith))
+
+-- with their numbers they are the same sets
+abbrev pub bareShown : Confirmed → Shown
+bareShown c = c .shown
+
+pub confirmed-shown : (t : Entries) → map bareShown (confirmedSets t) ≡ shownSets t
+unfolding shownSets showing confirmedSets confirming
+confirmed-shown [] = refl
+confirmed-shown (e ∷ es) =
+    cases-option (e .shown) (λ g. rw g (confirmed-shown es)) (λ l g. rw g (ap (λ (ss : List Shown). record { key = e .key; on = e .state; set = l } ∷ ss) (confirmed-shown es)))
 
 -- what holds of every set that meets its rules holds of every set that a table shows
 module _ (P : Shown → Type 0) (each : (s : Shown) → setMeets (s .key) (s .set) ≡ true → P s) where

@@ -204,3 +204,17 @@ showing e (some l) rest = record { key = e .key; on = e .state; set = l } ∷ re
 unfoldable pub shownSets : Entries → List Shown
 shownSets [] = []
 shownSets (e ∷ es) = showing e (e .shown) (shownSets es)
+
+-- a shown set with the number of the block at which it was last shown (document 02, R-9)
+pub record Confirmed : Type 0 where
+  pub shown : Shown
+  pub block : ℕ
+
+unfoldable pub confirming : Held → Option IdSet → List Confirmed → List Confirmed
+confirming e none rest = rest
+confirming e (some l) rest = record { shown = record { key = e .key; on = e .state; set = l }; block = e .stamp } ∷ rest
+
+-- the same sets with their numbers
+unfoldable pub confirmedSets : Entries → List Confirmed
+confirmedSets [] = []
+confirmedSets (e ∷ es) = confirming e (e .shown) (confirmedSets es)

@@ -19,9 +19,9 @@ use Rattle.lists.proofs.Pairs.{length-pairs-in, drop-pairs, drop-pairs-end}
 use Rattle.lists.proofs.StoredLaws.{holds-facts}
 use Rattle.sets.specs.declared.Sets.{Sets}
 use Rattle.sets.specs.Stored.{storeSets, SetsStored, past, EachHolds}
-use Rattle.sets.specs.Shown.{setIn, shownAs, setsFrom, setsIn}
+use Rattle.sets.specs.Shown.{setIn, shownAs, shownAt, setsFrom, setsIn}
 use Rattle.sets.proofs.SetsLaws.{stored-facts}
-use Rattle.sets.proofs.ShownLaws.{shownAt, sets-next, sets-stored}
+use Rattle.sets.proofs.ShownLaws.{sets-next, sets-stored}
 use Rattle.out.specs.Put.{Puts}
 use Rattle.out.proofs.Runs.{puts-as, puts-then}
 use Rattle.sheet.proofs.Groups.{number-short}

@@ -10,8 +10,8 @@ use Rattle.rules.specs.Collecting.{Content, meets, Shown}
 use Rattle.text.specs.Listing.{lineOf, linesOf, tailText, listing}
 use Rattle.sets.specs.declared.Sets.{Sets}
 use Rattle.sets.specs.Stored.{storeSets, past}
-use Rattle.sets.specs.Shown.{setsFrom, setsIn}
-use Rattle.sets.proofs.ShownLaws.{shownAt, sets-next, sets-stored}
+use Rattle.sets.specs.Shown.{shownAt, setsFrom, setsIn}
+use Rattle.sets.proofs.ShownLaws.{sets-next, sets-stored}
 use Rattle.text.specs.Lines.{setsText}
 use Rattle.text.proofs.Texts.{listing-parts}
 

@@ -8,8 +8,7 @@ use borrow.Author.Needs.{needs}
 use Rattle.pieces.specs.Air.{setBlocks, allBlocks}
 use Rattle.lists.proofs.StoredLaws.{holds-facts}
 use Rattle.sets.specs.Stored.{EachHolds, past}
-use Rattle.sets.specs.Shown.{setsFrom}
-use Rattle.sets.proofs.ShownLaws.{shownAt}
+use Rattle.sets.specs.Shown.{shownAt, setsFrom}
 use Rattle.air.proofs.Output.{set-size, blocks-next, blocks-end, blocks-all}
 use Rattle.air.proofs.count_all.Statement.{statement}
 use Rattle.air.proofs.count_all.Tie as tie

@@ -5,8 +5,8 @@ use mathlib.Core.Path.{_≡_, ap}
 use mathlib.Core.Logic.{⊎-elim}
 use mathlib.Core.List.{_++_}
 use lib.ListN.{length, length-append}
-use Rattle.sets.specs.Shown.{setsFrom, setsIn}
-use Rattle.sets.proofs.ShownLaws.{shownAt, sets-skip, sets-end, sets-all}
+use Rattle.sets.specs.Shown.{shownAt, setsFrom, setsIn}
+use Rattle.sets.proofs.ShownLaws.{sets-skip, sets-end, sets-all}
 use Rattle.columns.specs.Columns.{rowsOf, rowsText, ruleText, setsText}
 use Rattle.columns.proofs.Whole.{text-next}
 use borrow.Author.Needs.{needs}

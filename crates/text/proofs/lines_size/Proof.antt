@@ -5,8 +5,8 @@ use mathlib.Core.Path.{_≡_, ap}
 use mathlib.Core.Logic.{⊎-elim}
 use lib.ListN.{length, length-append}
 use Rattle.text.specs.Listing.{lineOf, linesOf}
-use Rattle.sets.specs.Shown.{setsFrom, setsIn}
-use Rattle.sets.proofs.ShownLaws.{shownAt, sets-skip, sets-end, sets-all}
+use Rattle.sets.specs.Shown.{shownAt, setsFrom, setsIn}
+use Rattle.sets.proofs.ShownLaws.{sets-skip, sets-end, sets-all}
 use Rattle.text.proofs.SetLaws.{lines-next}
 use borrow.Author.Needs.{needs}
 use Rattle.text.proofs.lines_size.Statement.{statement}
