@@ -18,10 +18,10 @@ use Rattle.rules.specs.declared.Outcome.the-variants.{Done}
 use Rattle.rules.specs.Block.{bit}
 use Rattle.rules.specs.Field.{Pair}
 use Rattle.rules.specs.Family.{heldMeets}
-use Rattle.rules.specs.Collecting.{IdSet, Entries, Content, justSets, Shown, isKey, keyWidth, pairsMeet, ifThere, entryMeets, ascends, entriesMeet, setsMeet, meets, showing, shownSets}
+use Rattle.rules.specs.Collecting.{IdSet, Entries, Content, justSets, Shown, isKey, keyWidth, pairsMeet, ifThere, numberMeets, entryMeets, ascends, entriesMeet, setsMeet, meets, showing, shownSets}
 use Rattle.layout.specs.Sheet.{groups, sheetNumber, sheetPairs, sheetSet, sheetSets, sheet, alone, justShown, Load, accepted, notASheet}
 use Rattle.rules.proofs.Basics.{same-head, same-tail, cases-bool, and-left, and-right, and-both, bit-small}
-use Rattle.rules.proofs.TableRules.{kind-small, names-small, width-most, within-width, pair-rules, SetRules, set-rules, entry-rules, KeyMeets, key-meets, table-rules, shown-few}
+use Rattle.rules.proofs.TableRules.{kind-small, names-small, width-most, within-width, pair-rules, SetRules, set-rules, entry-rules, KeyMeets, key-meets, table-rules, NumbersWithin, content-meets, nothing-meets, sets-meet, shown-few}
 
 -- ---- numbers
 
@@ -86,7 +86,7 @@ pub shown-rules : (s : Shown) → (entryMeets (alone s) ≡ true) ↔ ShownRules
 unfolding ifThere alone
 shown-rules s = (
   λ h. let r = entry-rules (alone s) .0 h in record { key = key-meets (s .key) .0 (r .key); set = set-rules (s .key) (s .set) .0 (r .shown) },
-  λ r. entry-rules (alone s) .1 (record { key = key-meets (s .key) .1 (r .key); shown = set-rules (s .key) (s .set) .1 (r .set); draft = refl }),
+  λ r. entry-rules (alone s) .1 (record { number = unfold numberMeets in refl; key = key-meets (s .key) .1 (r .key); shown = set-rules (s .key) (s .set) .1 (r .set); draft = refl }),
 )
 
 -- ---- pairs
@@ -201,32 +201,37 @@ shown-ascends last (e ∷ es) h =
     go (some s) l r = and-both _ _ l r
 
 pub shown-entries : (t : Entries) → entriesMeet t ≡ true → entriesMeet (map alone (shownSets t)) ≡ true
-unfolding shownSets showing alone entriesMeet heldMeets ifThere
+unfolding shownSets showing alone entriesMeet ifThere numberMeets
 shown-entries [] h = refl
 shown-entries (e ∷ es) h =
-    let a = isKey (e .key) in
-    let b = ifThere (e .key) (e .shown) in
-    let d = ifThere (e .key) (e .draft) in
-    let abd = and-left (a && b && d) (entriesMeet es) h in
-    let ab = and-left (a && b) d abd in
-    go (e .shown) (and-left a b ab) (and-right a b ab) (shown-entries es (and-right (a && b && d) (entriesMeet es) h))
+    let r = entry-rules e .0 (and-left (entryMeets e) (entriesMeet es) h) in
+    go (e .shown) (r .key) (r .shown) (shown-entries es (and-right (entryMeets e) (entriesMeet es) h))
   where
     go : (o : Option IdSet) → isKey (e .key) ≡ true → ifThere (e .key) o ≡ true
         → entriesMeet (map alone (shownSets es)) ≡ true → entriesMeet (map alone (showing e o (shownSets es))) ≡ true
     go none k s r = r
-    go (some l) k s r = and-both _ _ (and-both _ _ (and-both _ _ k s) refl) r
+    go (some l) k s r = and-both _ _ (entry-rules _ .1 (record { number = refl; key = k; shown = s; draft = refl })) r
+
+-- sets alone have no numbers, so that they meet the rules in a table of no blocks
+pub alone-meet : (ss : List Shown) → setsMeet (map alone ss) ≡ true → meets (justSets (map alone ss)) ≡ true
+alone-meet ss h = content-meets (justSets (map alone ss)) .1 (record { sets = h; within = zeros ss; most = omega arith })
+  where
+    zeros : (us : List Shown) → NumbersWithin 0 (map alone us)
+    zeros [] = tt
+    zeros (s ∷ us) = (unfold alone in omega arith, zeros us)
 
 -- the shown sets of a table, alone, meet the rules
 pub shown-meet : (t : Content) → meets t ≡ true → meets (justShown t) ≡ true
 unfolding justShown
 shown-meet t h =
-    let r = table-rules (t .sets) .0 h in
-    table-rules (map alone (shownSets (t .sets))) .1
+    let r = table-rules (t .sets) .0 (sets-meet t h) in
+    alone-meet (shownSets (t .sets))
+    (table-rules (map alone (shownSets (t .sets))) .1
     (record {
       short = omega (arith, r .short, shown-few (t .sets), length-map (shownSets (t .sets)) alone);
       ascend = shown-ascends 0 (t .sets) (r .ascend);
       entries = shown-entries (t .sets) (r .entries);
-    })
+    }))
 
 -- they show the same
 pub shown-same : (t : Content) → shownSets (justShown t .sets) ≡ shownSets (t .sets)
@@ -251,8 +256,8 @@ pub sheet-prefix :
     → (shownSets (t .sets) ≡ shownSets (u .sets)) × (x ≡ y)
 unfolding sheet
 sheet-prefix t u x y g h e =
-    let a = table-rules (t .sets) .0 g in
-    let b = table-rules (u .sets) .0 h in
+    let a = table-rules (t .sets) .0 (sets-meet t g) in
+    let b = table-rules (u .sets) .0 (sets-meet u h) in
     let tf = shown-few (t .sets) in
     let uf = shown-few (u .sets) in
     let c = number-prefix (length (shownSets (t .sets))) (length (shownSets (u .sets))) (sheetSets (shownSets (t .sets)) ++ x) (sheetSets (shownSets (u .sets)) ++ y) (omega arith) (omega arith) (simp append-assoc at e) in
@@ -303,7 +308,7 @@ sets-most (s ∷ ss) h =
 pub sheet-most : (t : Content) → meets t ≡ true → length (sheet t) ≤ 24801
 unfolding sheet
 sheet-most t h =
-    let r = table-rules (t .sets) .0 h in
+    let r = table-rules (t .sets) .0 (sets-meet t h) in
     let f = shown-few (t .sets) in
     let c = number-most 0 (length (shownSets (t .sets))) (omega arith) in
     let s = sets-most (shownSets (t .sets)) (shown-entries (t .sets) (r .entries)) in
@@ -326,9 +331,8 @@ load-single (notASheet never oe te) (notASheet nor pe ue) = (oe ∙ sym pe, te �
 
 -- what loading leaves meets the table rules
 pub load-meets : {bytes : List ℕ} {o : Outcome} {t : Content} → Load bytes o t → meets t ≡ true
-unfolding setsMeet ascends entriesMeet
 load-meets (accepted a g d oe te) = rw te (shown-meet a g)
-load-meets (notASheet never oe te) = rw te
+load-meets (notASheet never oe te) = rw te nothing-meets
 
 -- loading what was written gives the shown sets
 pub load-written : {o : Outcome} {u : Content} (t : Content) → meets t ≡ true → Load (sheet t) o u → (o ≡ Done) × (u ≡ justShown t)

@@ -24,9 +24,9 @@ use Rattle.rules.specs.Collecting.{linkage, Entries, Content, nothing, justSets
 use Rattle.layout.specs.Sheet.{groups, sheetNumber, sheetPairs, sheetSet, sheetSets, sheet, alone, justShown, Load, accepted, notASheet}
 use Rattle.rules.proofs.Basics.{cases-bool, cases-option, true-false, and-left, and-right, and-both, bit-small}
 use Rattle.rules.proofs.FamilyLaws.{different-snoc}
-use Rattle.rules.proofs.TableRules.{lawful, kind-small, names-small, width-most, within-width, all-differ, differ-before, pair-rules, some-there, not-empty, key-meets, table-rules, shown-few}
+use Rattle.rules.proofs.TableRules.{lawful, kind-small, names-small, width-most, within-width, all-differ, differ-before, pair-rules, some-there, not-empty, key-meets, table-rules, sets-meet, shown-few}
 use Rattle.layout.proofs.Standing.{Bytes, Stands, byte-ahead, stands-byte, stands-none, stands-append, stands-first, stands-second, stands-to, stands-by}
-use Rattle.layout.proofs.Laws.{groups-small, groups-large, ShownRules, shown-rules, shown-ascends, shown-entries, shown-alone}
+use Rattle.layout.proofs.Laws.{groups-small, groups-large, ShownRules, shown-rules, alone-meet, shown-ascends, shown-entries, shown-alone}
 use Rattle.layout.specs.Parse.{Read, andThen, readGroups, readNumber, readIf, kindFits, numberFits, readPair, readPairs, keyFits, countFits, Head, readHead, setOf, readSet, readSets, parseSheet}
 
 -- ---- going on
@@ -605,7 +605,7 @@ sheet-made ss bytes place next few n o r s q =
     let all = sheetNumber (length ss) ++ sheetSets ss in
     let back = shown-alone ss in
     record {
-      rules = table-rules (map alone ss) .1 (record { short = omega (arith, length-map ss alone); ascend = o; entries = r });
+      rules = alone-meet ss (table-rules (map alone ss) .1 (record { short = omega (arith, length-map ss alone); ascend = o; entries = r }));
       writes =
           ap (λ (us : List Shown). sheetNumber (length us) ++ sheetSets us) back
           ∙ sym (append-nil all)
@@ -633,7 +633,7 @@ sheet-read bytes u byte e =
 pub sheet-readable : (t : Content) → meets t ≡ true → parseSheet (sheet t) ≡ some (justShown t)
 unfolding parseSheet sheet justShown
 sheet-readable t h =
-    let r = table-rules (t .sets) .0 h in
+    let r = table-rules (t .sets) .0 (sets-meet t h) in
     let ss = shownSets (t .sets) in
     let l = shown-few (t .sets) in
     let n = sheetNumber (length ss) in

@@ -45,7 +45,7 @@ sheet t = sheetNumber (length (shownSets (t .sets))) ++ sheetSets (shownSets (t 
 
 -- a shown set as all that is held of its key
 unfoldable pub alone : Shown → Held
-alone s = record { key = s .key; state = s .on; shown = some (s .set); draft = none; stamp = tt }
+alone s = record { key = s .key; state = s .on; shown = some (s .set); draft = none; stamp = 0 }
 
 -- a content with these sets, no open list and no other key
 unfoldable pub justShown : Content → Content

@@ -41,7 +41,7 @@ module _ (body : List ℕ) (f : Field) where
 
 -- ---- what becomes of the entry
 
-module _ (body : List ℕ) (f : Field) (r : InBody body f) (q : f .qualifier ≡ 2 → ⊥) (e : Held) (s : Bool) (k : ℕ) where
+module _ (body : List ℕ) (f : Field) (r : InBody body f) (q : f .qualifier ≡ 2 → ⊥) (e : Held) (s : Bool) (block k : ℕ) where
   more-none : (o : Option IdSet) → ifThere k o ≡ true → storeMaybe o .len ≡ 0
       → record { shows = false; draft = storeMaybe o; note = NoOpenList } ≡ steppedAs (continued linkage e s (brings (meaning body f)) o)
   unfolding continued entryWith steppedAs isShowing
@@ -96,67 +96,67 @@ module _ (body : List ℕ) (f : Field) (r : InBody body f) (q : f .qualifier ≡
 
   -- a start, with the new list as it is stored
   start-none : (o : Option IdSet) (g : Grown) → ifThere k o ≡ true → storeMaybe o .len ≡ 0 → g ≡ withField emptyList body f
-      → record { shows = false; draft = g .list; note = Opened } ≡ steppedAs (started linkage e s tt (brings (meaning body f)) o)
+      → record { shows = false; draft = g .list; note = Opened } ≡ steppedAs (started linkage e s block (brings (meaning body f)) o)
   unfolding started entryWith steppedAs isShowing storeMaybe
   start-none none g m z w = ap (λ (x : Grown). record { shows = false; draft = x .list; note = Opened }) (w ∙ with-none body f r q)
   start-none (some d) g m z w = absurd (stored-some k d m z)
 
   start-some : (o : Option IdSet) (g : Grown) → (storeMaybe o .len ≡ 0 → ⊥) → g ≡ withField emptyList body f
-      → record { shows = true; draft = g .list; note = ShownAndOpened } ≡ steppedAs (started linkage e s tt (brings (meaning body f)) o)
+      → record { shows = true; draft = g .list; note = ShownAndOpened } ≡ steppedAs (started linkage e s block (brings (meaning body f)) o)
   unfolding started entryWith steppedAs isShowing storeMaybe emptyList
   start-some none g n w = absurd (n refl)
   start-some (some d) g n w = ap (λ (x : Grown). record { shows = true; draft = x .list; note = ShownAndOpened }) (w ∙ with-none body f r q)
 
 -- ---- the field's step, as the code takes it
 
-module _ (body : List ℕ) (f : Field) (bytes : (i : ℕ) → getD body i 0 < 256) (e : Held) (s : Bool) (place next : ℕ) (fd : fieldStepAt body place ≡ Found f next)
+module _ (body : List ℕ) (f : Field) (bytes : (i : ℕ) → getD body i 0 < 256) (e : Held) (s : Bool) (block place next : ℕ) (fd : fieldStepAt body place ≡ Found f next)
     (q : f .qualifier ≡ 2 → ⊥) (m : ifThere (e .key) (e .draft) ≡ true) (draft : IdList) (ed : draft ≡ storeMaybe (e .draft)) where
   inside : InBody body f
   inside = fieldStepAt-range body place f next bytes fd .field
 
   -- the step that the act makes is the step of the field
-  by-act : (a : Act linkage) (x : ListStep) → actOf (meaning body f) ≡ a → x ≡ steppedAs (onHeld linkage e s tt a) → x ≡ steppedAs (onHeld linkage e s tt (actOf (meaning body f)))
-  by-act a x p y = y ∙ ap (λ (b : Act linkage). steppedAs (onHeld linkage e s tt b)) (sym p)
+  by-act : (a : Act linkage) (x : ListStep) → actOf (meaning body f) ≡ a → x ≡ steppedAs (onHeld linkage e s block a) → x ≡ steppedAs (onHeld linkage e s block (actOf (meaning body f)))
+  by-act a x p y = y ∙ ap (λ (b : Act linkage). steppedAs (onHeld linkage e s block b)) (sym p)
 
   len-is : draft .len ≡ storeMaybe (e .draft) .len
   len-is = ap (λ (l : IdList). l .len) ed
 
-  pub step-state : hasListIn f ≡ false → record { shows = false; draft = draft; note = StateOnly } ≡ steppedAs (onHeld linkage e s tt (actOf (meaning body f)))
+  pub step-state : hasListIn f ≡ false → record { shows = false; draft = draft; note = StateOnly } ≡ steppedAs (onHeld linkage e s block (actOf (meaning body f)))
   unfolding onHeld entryWith steppedAs isShowing
   step-state h = by-act noList _ (act-none body f h) (λ i. record { shows = false; draft = ed i; note = StateOnly })
 
   pub step-none : hasListIn f ≡ true → continues f ≡ true → draft .len ≡ 0
-      → record { shows = false; draft = draft; note = NoOpenList } ≡ steppedAs (onHeld linkage e s tt (actOf (meaning body f)))
+      → record { shows = false; draft = draft; note = NoOpenList } ≡ steppedAs (onHeld linkage e s block (actOf (meaning body f)))
   unfolding onHeld
   step-none h c z =
       by-act (continuation (brings (meaning body f))) _ (act-more body f h c)
-      ((λ i. record { shows = false; draft = ed i; note = NoOpenList }) ∙ more-none body f inside q e s (e .key) (e .draft) m (sym len-is ∙ z))
+      ((λ i. record { shows = false; draft = ed i; note = NoOpenList }) ∙ more-none body f inside q e s block (e .key) (e .draft) m (sym len-is ∙ z))
 
   module _ (g : Grown) where
     pub step-added : hasListIn f ≡ true → continues f ≡ true → (draft .len ≡ 0 → ⊥) → g ≡ withField draft body f → g .fits ≡ true
-        → record { shows = false; draft = g .list; note = Added } ≡ steppedAs (onHeld linkage e s tt (actOf (meaning body f)))
+        → record { shows = false; draft = g .list; note = Added } ≡ steppedAs (onHeld linkage e s block (actOf (meaning body f)))
     unfolding onHeld
     step-added h c n w t =
         by-act (continuation (brings (meaning body f))) _ (act-more body f h c)
-        (more-fits body f inside q e s (e .key) (e .draft) g m (λ z. n (len-is ∙ z)) (w ∙ ap (λ (l : IdList). withField l body f) ed) t)
+        (more-fits body f inside q e s block (e .key) (e .draft) g m (λ z. n (len-is ∙ z)) (w ∙ ap (λ (l : IdList). withField l body f) ed) t)
 
     pub step-long : hasListIn f ≡ true → continues f ≡ true → (draft .len ≡ 0 → ⊥) → g ≡ withField draft body f → g .fits ≡ false
-        → record { shows = false; draft = g .list; note = TooLong } ≡ steppedAs (onHeld linkage e s tt (actOf (meaning body f)))
+        → record { shows = false; draft = g .list; note = TooLong } ≡ steppedAs (onHeld linkage e s block (actOf (meaning body f)))
     unfolding onHeld
     step-long h c n w t =
         by-act (continuation (brings (meaning body f))) _ (act-more body f h c)
-        (more-not body f inside q e s (e .key) (e .draft) g m (λ z. n (len-is ∙ z)) (w ∙ ap (λ (l : IdList). withField l body f) ed) t)
+        (more-not body f inside q e s block (e .key) (e .draft) g m (λ z. n (len-is ∙ z)) (w ∙ ap (λ (l : IdList). withField l body f) ed) t)
 
     pub step-opened : hasListIn f ≡ true → continues f ≡ false → draft .len ≡ 0 → (l : IdList) → l ≡ emptyList → g ≡ withField l body f
-        → record { shows = false; draft = g .list; note = Opened } ≡ steppedAs (onHeld linkage e s tt (actOf (meaning body f)))
+        → record { shows = false; draft = g .list; note = Opened } ≡ steppedAs (onHeld linkage e s block (actOf (meaning body f)))
     unfolding onHeld
     step-opened h c z l p w =
         by-act (start (brings (meaning body f))) _ (act-start body f h c)
-        (start-none body f inside q e s (e .key) (e .draft) g m (sym len-is ∙ z) (w ∙ ap (λ (x : IdList). withField x body f) p))
+        (start-none body f inside q e s block (e .key) (e .draft) g m (sym len-is ∙ z) (w ∙ ap (λ (x : IdList). withField x body f) p))
 
     pub step-shown : hasListIn f ≡ true → continues f ≡ false → (draft .len ≡ 0 → ⊥) → (l : IdList) → l ≡ emptyList → g ≡ withField l body f
-        → record { shows = true; draft = g .list; note = ShownAndOpened } ≡ steppedAs (onHeld linkage e s tt (actOf (meaning body f)))
+        → record { shows = true; draft = g .list; note = ShownAndOpened } ≡ steppedAs (onHeld linkage e s block (actOf (meaning body f)))
     unfolding onHeld
     step-shown h c n l p w =
         by-act (start (brings (meaning body f))) _ (act-start body f h c)
-        (start-some body f inside q e s (e .key) (e .draft) g (λ z. n (len-is ∙ z)) (w ∙ ap (λ (x : IdList). withField x body f) p))
+        (start-some body f inside q e s block (e .key) (e .draft) g (λ z. n (len-is ∙ z)) (w ∙ ap (λ (x : IdList). withField x body f) p))

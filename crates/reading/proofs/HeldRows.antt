@@ -39,13 +39,13 @@ module _ (body : List ℕ) (f : Field) (bytes : (i : ℕ) → getD body i 0 < 25
   unfolding HeldStep isShowing
   row-state h e =
       subst (λ (x : Stepped). RowStep body f s d x sn sk dn dk sn sk dn dk) (sym e)
-      (record { drafted = λ x on place next fd q m ed. step-state body f bytes x on place next fd q m (rowList dn dk d) ed h; showing = refl })
+      (record { drafted = λ x on block place next fd q m ed. step-state body f bytes x on block place next fd q m (rowList dn dk d) ed h; showing = refl })
 
   pub row-none : hasListIn f ≡ true → continues f ≡ true → d .len ≡ 0 → by (stepped s d NoOpenList) sn sk dn dk
   unfolding HeldStep isShowing rowList
   row-none h c z e =
       subst (λ (x : Stepped). RowStep body f s d x sn sk dn dk sn sk dn dk) (sym e)
-      (record { drafted = λ x on place next fd q m ed. step-none body f bytes x on place next fd q m (rowList dn dk d) ed h c z; showing = refl })
+      (record { drafted = λ x on block place next fd q m ed. step-none body f bytes x on block place next fd q m (rowList dn dk d) ed h c z; showing = refl })
 
   module _ (g : Appended) (dn' dk' : List ℕ) where
     pub row-added : hasListIn f ≡ true → continues f ≡ true → (d .len ≡ 0 → ⊥) → appendedAs g dn' dk' ≡ withField (rowList dn dk d) body f → g .fits ≡ true
@@ -53,14 +53,14 @@ module _ (body : List ℕ) (f : Field) (bytes : (i : ℕ) → getD body i 0 < 25
     unfolding HeldStep isShowing rowList appendedAs
     row-added h c n w t e =
         subst (λ (x : Stepped). RowStep body f s d x sn sk dn dk sn sk dn' dk') (sym e)
-        (record { drafted = λ x on place next fd q m ed. step-added body f bytes x on place next fd q m (rowList dn dk d) ed (appendedAs g dn' dk') h c n w t; showing = refl })
+        (record { drafted = λ x on block place next fd q m ed. step-added body f bytes x on block place next fd q m (rowList dn dk d) ed (appendedAs g dn' dk') h c n w t; showing = refl })
 
     pub row-long : hasListIn f ≡ true → continues f ≡ true → (d .len ≡ 0 → ⊥) → appendedAs g dn' dk' ≡ withField (rowList dn dk d) body f → g .fits ≡ false
         → by (stepped s (g .row) TooLong) sn sk dn' dk'
     unfolding HeldStep isShowing rowList appendedAs
     row-long h c n w t e =
         subst (λ (x : Stepped). RowStep body f s d x sn sk dn dk sn sk dn' dk') (sym e)
-        (record { drafted = λ x on place next fd q m ed. step-long body f bytes x on place next fd q m (rowList dn dk d) ed (appendedAs g dn' dk') h c n w t; showing = refl })
+        (record { drafted = λ x on block place next fd q m ed. step-long body f bytes x on block place next fd q m (rowList dn dk d) ed (appendedAs g dn' dk') h c n w t; showing = refl })
 
     pub row-opened : hasListIn f ≡ true → continues f ≡ false → d .len ≡ 0 → appendedAs g dn' dk' ≡ withField (rowList dn dk (rowOf 0 0)) body f
         → by (stepped s (g .row) Opened) sn sk dn' dk'
@@ -68,7 +68,7 @@ module _ (body : List ℕ) (f : Field) (bytes : (i : ℕ) → getD body i 0 < 25
     row-opened h c z w e =
         subst (λ (x : Stepped). RowStep body f s d x sn sk dn dk sn sk dn' dk') (sym e)
         (record {
-          drafted = λ x on place next fd q m ed. step-opened body f bytes x on place next fd q m (rowList dn dk d) ed (appendedAs g dn' dk') h c z (rowList dn dk (rowOf 0 0)) (row-empty dn dk) w;
+          drafted = λ x on block place next fd q m ed. step-opened body f bytes x on block place next fd q m (rowList dn dk d) ed (appendedAs g dn' dk') h c z (rowList dn dk (rowOf 0 0)) (row-empty dn dk) w;
           showing = refl;
         })
 
@@ -79,6 +79,6 @@ module _ (body : List ℕ) (f : Field) (bytes : (i : ℕ) → getD body i 0 < 25
     row-shown h c n w ln lk short sn' sk' p q' e =
         subst (λ (x : Stepped). RowStep body f s d x sn sk dn dk sn' sk' dn' dk') (sym e)
         (record {
-          drafted = λ x on place next fd q m ed. step-shown body f bytes x on place next fd q m (rowList dn dk d) ed (appendedAs g dn' dk') h c n (rowList dn dk (rowOf 0 0)) (row-empty dn dk) w;
+          drafted = λ x on block place next fd q m ed. step-shown body f bytes x on block place next fd q m (rowList dn dk d) ed (appendedAs g dn' dk') h c n (rowList dn dk (rowOf 0 0)) (row-empty dn dk) w;
           showing = row-copied dn dk sn' sk' sn sk (d .len) (d .named) (omega arith) (omega arith) p q';
         })

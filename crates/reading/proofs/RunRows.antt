@@ -12,12 +12,12 @@ use lib.Dec.{ltb, eqb}
 use Rattle.rules.specs.Arrays.{padded}
 use Rattle.rules.specs.declared.Note.{Note}
 use Rattle.rules.specs.declared.Note.the-variants.{Opened}
-use Rattle.rules.specs.Collecting.{IdSet, Held, Entries, setsMeet, entriesMeet, entryMeets, ifThere, mostKeys, mostIds}
+use Rattle.rules.specs.Collecting.{IdSet, Held, Entries, setsMeet, entriesMeet, entryMeets, ifThere, nextBlock, mostKeys, mostIds}
 use Rattle.rules.specs.Field.{numberIn, kindIn}
 use Rattle.rules.specs.Outcomes.{verdict}
 use Rattle.rules.proofs.Basics.{and-left, and-right, getD-map}
 use Rattle.rules.proofs.Arrays.{take-padded}
-use Rattle.rules.proofs.TableRules.{table-rules, entry-rules, set-rules}
+use Rattle.rules.proofs.TableRules.{table-rules, sets-meet, entry-rules, set-rules}
 use Rattle.field.specs.declared.Field.{Field}
 use Rattle.field.specs.FieldStep.{keyIn}
 use Rattle.lists.specs.declared.IdList.{IdList}
@@ -38,7 +38,7 @@ use Rattle.reading.specs.declared.Reply.{Reply}
 use Rattle.reading.specs.declared.rows.Row.{Row}
 use Rattle.reading.specs.declared.rows.Rows.{Rows}
 use Rattle.reading.specs.declared.rows.Stepped.{Stepped}
-use Rattle.reading.specs.Steps.{isShowing, HeldStep, opensIn, unheldNote, isDone}
+use Rattle.reading.specs.Steps.{isShowing, HeldStep, confirmedBy, opensIn, unheldNote, isDone}
 use Rattle.reading.specs.Gathered.{rowList, gathered, setsOf, packed, noRows, Whole, Laid, Unchanged, RowStep}
 use Rattle.reading.specs.Runs.{noReply, replyTo, replyWith, Runs}
 use Rattle.sets.proofs.StoreLaws.{setAt}
@@ -90,9 +90,9 @@ module _ (t : Sets) (c : Entries) (m : setsMeet c ≡ true) (e : t ≡ storeSets
   packed-draft = subst (λ (u : Sets). map packed (u .draft) ≡ u .draft) (sym e) (packed-column draftIn (λ x r. packed-maybe (x .key) (x .draft) (entry-rules x .0 r .draft)) c (table-rules c .0 m .entries))
 
   -- sets laid out are gathered again
-  pub laid : (sn sk dn dk : List ℕ) (s d : Rows) → gathered sn sk s ≡ map packed (t .shown) → gathered dn dk d ≡ map packed (t .draft) → setsOf t (t .on) sn sk s dn dk d ≡ t
+  pub laid : (sn sk dn dk : List ℕ) (s d : Rows) → gathered sn sk s ≡ map packed (t .shown) → gathered dn dk d ≡ map packed (t .draft) → setsOf t (t .on) (t .confirmed) sn sk s dn dk d ≡ t
   unfolding setsOf
-  laid sn sk dn dk s d p q = ap₂ (withLists t (t .on)) (p ∙ packed-shown) (q ∙ packed-draft)
+  laid sn sk dn dk s d p q = ap₂ (withLists t (t .on) (t .confirmed)) (p ∙ packed-shown) (q ∙ packed-draft)
 
 -- a packed list has at most 128 places
 short-packed : (ls : List IdList) (p : ℕ) → map packed ls ≡ ls → p < length ls → getD ls p past .len ≤ mostIds
@@ -103,42 +103,42 @@ short-packed ls p e h =
 
 -- ---- what the loop keeps
 
--- the sets that were laid out, and the rows and totals since
-pub record Kept (bytes : List ℕ) (t₀ : Table) (l : Sets) (n : Totals) (on : List Bool) (sn sk : List ℕ) (s : Rows) (dn dk : List ℕ) (d : Rows) (reply : Reply) (spots : Spots) (from at i : ℕ) : Type 0 where
+-- the sets that were laid out, and the totals, blocks, states, numbers and rows since
+pub record Kept (bytes : List ℕ) (t₀ : Table) (l : Sets) (n : Totals) (m : ℕ) (on : List Bool) (ns : List ℕ) (sn sk : List ℕ) (s : Rows) (dn dk : List ℕ) (d : Rows) (reply : Reply) (spots : Spots) (from at i : ℕ) : Type 0 where
   pub shown : Whole sn sk s
   pub draft : Whole dn dk d
   pub shown-laid : Unchanged (l .shown) sn sk s
   pub draft-laid : Unchanged (l .draft) dn dk d
-  pub going : Going bytes t₀ (tableOf (setsOf l on sn sk s dn dk d) n) reply spots from at i
+  pub going : Going bytes t₀ (tableOf (setsOf l on ns sn sk s dn dk d) n m) reply spots from at i
 
 module _ (bytes : List ℕ) (t : Table) (stored : Stored t) (sn sk dn dk : List ℕ) (s d : Rows) (p : Laid (t .sets .shown) s sn sk) (q : Laid (t .sets .draft) d dn dk) where
-  pub first-table : tableOf (setsOf (t .sets) (t .sets .on) sn sk s dn dk d) (t .totals) ≡ t
+  pub first-table : tableOf (setsOf (t .sets) (t .sets .on) (t .sets .confirmed) sn sk s dn dk d) (t .totals) (t .blocks) ≡ t
   unfolding Stored
   first-table =
-      ap (λ (x : Sets). tableOf x (t .totals)) (laid (t .sets) (stored .0 .sets) (stored .1) (ap (λ (u : Table). u .sets) (stored .2)) sn sk dn dk s d (p .same) (q .same))
+      ap (λ (x : Sets). tableOf x (t .totals) (t .blocks)) (laid (t .sets) (stored .0 .sets) (sets-meet (stored .0) (stored .1)) (ap (λ (u : Table). u .sets) (stored .2)) sn sk dn dk s d (p .same) (q .same))
 
   pub kept-first : (reply : Reply) → reply ≡ noReply → (spots : Spots) → spots ≡ noSpots
-      → Kept bytes (tableOf (setsOf (t .sets) (t .sets .on) sn sk s dn dk d) (t .totals)) (t .sets) (t .totals) (t .sets .on) sn sk s dn dk d reply spots 0 0 0
+      → Kept bytes (tableOf (setsOf (t .sets) (t .sets .on) (t .sets .confirmed) sn sk s dn dk d) (t .totals) (t .blocks)) (t .sets) (t .totals) (t .blocks) (t .sets .on) (t .sets .confirmed) sn sk s dn dk d reply spots 0 0 0
   unfolding Stored
   kept-first reply re spots se =
       record {
         shown = p .whole;
         draft = q .whole;
-        shown-laid = unchanged-laid (t .sets .shown) sn sk s (p .same ∙ packed-shown (t .sets) (stored .0 .sets) (stored .1) (ap (λ (u : Table). u .sets) (stored .2)));
-        draft-laid = unchanged-laid (t .sets .draft) dn dk d (q .same ∙ packed-draft (t .sets) (stored .0 .sets) (stored .1) (ap (λ (u : Table). u .sets) (stored .2)));
-        going = going-first bytes (tableOf (setsOf (t .sets) (t .sets .on) sn sk s dn dk d) (t .totals)) reply spots (stored .0) (stored .1) (first-table ∙ stored .2) re se;
+        shown-laid = unchanged-laid (t .sets .shown) sn sk s (p .same ∙ packed-shown (t .sets) (stored .0 .sets) (sets-meet (stored .0) (stored .1)) (ap (λ (u : Table). u .sets) (stored .2)));
+        draft-laid = unchanged-laid (t .sets .draft) dn dk d (q .same ∙ packed-draft (t .sets) (stored .0 .sets) (sets-meet (stored .0) (stored .1)) (ap (λ (u : Table). u .sets) (stored .2)));
+        going = going-first bytes (tableOf (setsOf (t .sets) (t .sets .on) (t .sets .confirmed) sn sk s dn dk d) (t .totals) (t .blocks)) reply spots (stored .0) (stored .1) (first-table ∙ stored .2) re se;
       }
 
 -- ---- a turn
 
-module _ {bytes : List ℕ} {t₀ : Table} {l : Sets} {n : Totals} {on : List Bool} {sn sk : List ℕ} {s : Rows} {dn dk : List ℕ} {d : Rows} {reply : Reply} {spots : Spots} {from at i : ℕ}
-    (K : Kept bytes t₀ l n on sn sk s dn dk d reply spots from at i) where
+module _ {bytes : List ℕ} {t₀ : Table} {l : Sets} {n : Totals} {m : ℕ} {on : List Bool} {ns : List ℕ} {sn sk : List ℕ} {s : Rows} {dn dk : List ℕ} {d : Rows} {reply : Reply} {spots : Spots} {from at i : ℕ}
+    (K : Kept bytes t₀ l n m on ns sn sk s dn dk d reply spots from at i) where
   abbrev t : Sets
-  t = setsOf l on sn sk s dn dk d
+  t = setsOf l on ns sn sk s dn dk d
 
-  -- with the totals
+  -- with the totals and the count
   abbrev u : Table
-  u = tableOf t n
+  u = tableOf t n m
 
   -- an open list has at most 128 identifiers
   pub draft-short : (p : ℕ) → p < mostKeys → (list : Row) → list ≡ rowOf (getD (d .lens) p 0) (getD (d .names) p 0) → list .len ≤ mostIds
@@ -146,7 +146,7 @@ module _ {bytes : List ℕ} {t₀ : Table} {l : Sets} {n : Totals} {on : List Bo
   draft-short p hp list le =
       let len-is = ap (λ (x : Row). x .len) le in
       let G = K .going in
-      let short = short-packed (gathered dn dk d) p (packed-draft t (G .now' .sets) (G .now-meets) (ap (λ (x : Table). x .sets) (G .stored))) (omega (arith, length-gathered dn dk d (K .draft))) in
+      let short = short-packed (gathered dn dk d) p (packed-draft t (G .now' .sets) (sets-meet (G .now') (G .now-meets)) (ap (λ (x : Table). x .sets) (G .stored))) (omega (arith, length-gathered dn dk d (K .draft))) in
       let at-place = ap (λ (l : IdList). l .len) (gathered-at dn dk d (K .draft) p mostIds refl hp) in
       omega arith
 
@@ -160,9 +160,9 @@ module _ {bytes : List ℕ} {t₀ : Table} {l : Sets} {n : Totals} {on : List Bo
   module _ (lt : i < spots .count) (body : List ℕ) (body-is : body ≡ bodyAt (take 32 (drop from bytes)) (getD (spots .spots) i noSpot))
       (f : Field) (f-is : f ≡ fieldIn body (getD (spots .spots) i noSpot .place)) (key : ℕ) (ke : key ≡ keyIn f) (p : ℕ) (p-is : p ≡ placeIn (take (l .count) (l .keys)) key)
       (reply' : Reply) where
-    kept : {l' : Sets} {n' : Totals} {on' : List Bool} {sn' sk' : List ℕ} {s' : Rows} {dn' dk' : List ℕ} {d' : Rows} → Whole sn' sk' s' → Whole dn' dk' d'
+    kept : {l' : Sets} {n' : Totals} {m' : ℕ} {on' : List Bool} {ns' : List ℕ} {sn' sk' : List ℕ} {s' : Rows} {dn' dk' : List ℕ} {d' : Rows} → Whole sn' sk' s' → Whole dn' dk' d'
         → Unchanged (l' .shown) sn' sk' s' → Unchanged (l' .draft) dn' dk' d'
-        → Going bytes t₀ (tableOf (setsOf l' on' sn' sk' s' dn' dk' d') n') reply' spots from at (i + 1) → Kept bytes t₀ l' n' on' sn' sk' s' dn' dk' d' reply' spots from at (i + 1)
+        → Going bytes t₀ (tableOf (setsOf l' on' ns' sn' sk' s' dn' dk' d') n' m') reply' spots from at (i + 1) → Kept bytes t₀ l' n' m' on' ns' sn' sk' s' dn' dk' d' reply' spots from at (i + 1)
     kept ws wd us ud G = record { shown = ws; draft = wd; shown-laid = us; draft-laid = ud; going = G }
 
     abbrev noted' : Note → Type 0
@@ -207,66 +207,68 @@ module _ {bytes : List ℕ} {t₀ : Table} {l : Sets} {n : Totals} {on : List Bo
       unchanged' ls xs ys x w u a b la lb len named =
           unchanged-set ls xs ys (put' xs a) (put' ys b) x (rows' x len named) p (rowList a b (rowOf len named)) (omega (arith, w .changed)) refl (gathered-set xs ys x w p k k-is hp a b la lb len named true) u
 
-      table-is : setAt t p (eqb (f .la) 1) (rowList sn' sk' (r .shown)) (rowList dn' dk' (r .draft))
-          ≡ setsOf l on' (put' sn sn') (put' sk sk') (rows' s (r .shown .len) (r .shown .named)) (put' dn dn') (put' dk dk') (rows' d (r .draft .len) (r .draft .named))
+      table-is : (q : ℕ) → setAt t p (eqb (f .la) 1) q (rowList sn' sk' (r .shown)) (rowList dn' dk' (r .draft))
+          ≡ setsOf l on' (set ns p q) (put' sn sn') (put' sk sk') (rows' s (r .shown .len) (r .shown .named)) (put' dn dn') (put' dk dk') (rows' d (r .draft .len) (r .draft .named))
       unfolding setAt setsOf
-      table-is =
+      table-is q =
           let a = gathered-set sn sk s (K .shown) p k k-is hp sn' sk' lsn lsk (r .shown .len) (r .shown .named) true in
           let b = gathered-set dn dk d (K .draft) p k k-is hp dn' dk' ldn ldk (r .draft .len) (r .draft .named) true in
-          ap₂ (withLists l on') (sym a) (sym b)
+          ap₂ (withLists l on' (set ns p q)) (sym a) (sym b)
 
       -- the set that was shown is known by its row
       len-is : getD (t .shown) p past .len ≡ getD (s .lens) p 0
       unfolding rowList
       len-is = ap (λ (x : IdList). x .len) shown-at ∙ ap (λ (x : Row). x .len) row-is
 
-      pub kept-held : (n' : Totals) → n' ≡ exchangedSet n (getD (s .lens) p 0) (getD on p false) (r .shown .len) (eqb (f .la) 1) → noted' (r .note)
-          → Kept bytes t₀ l n' on' (put' sn sn') (put' sk sk') (rows' s (r .shown .len) (r .shown .named)) (put' dn dn') (put' dk dk') (rows' d (r .draft .len) (r .draft .named)) reply' spots from at (i + 1)
+      pub kept-held : (q : ℕ) → q ≡ confirmedBy (r .note) (getD ns p 0) m → (n' : Totals) → n' ≡ exchangedSet n (getD (s .lens) p 0) (getD on p false) (r .shown .len) (eqb (f .la) 1) → noted' (r .note)
+          → Kept bytes t₀ l n' m on' (set ns p q) (put' sn sn') (put' sk sk') (rows' s (r .shown .len) (r .shown .named)) (put' dn dn') (put' dk dk') (rows' d (r .draft .len) (r .draft .named)) reply' spots from at (i + 1)
       unfolding setsOf rowList
-      kept-held n' ne re =
+      kept-held q qe n' ne re =
           kept (whole' sn sk s (K .shown) sn' sk' lsn lsk (r .shown .len) (r .shown .named)) (whole' dn dk d (K .draft) dn' dk' ldn ldk (r .draft .len) (r .draft .named))
           (unchanged' (l .shown) sn sk s (K .shown) (K .shown-laid) sn' sk' lsn lsk (r .shown .len) (r .shown .named)) (unchanged' (l .draft) dn dk d (K .draft) (K .draft-laid) dn' dk' ldn ldk (r .draft .len) (r .draft .named))
-          (subst (λ (x : Sets). Going bytes t₀ (tableOf x n') reply' spots from at (i + 1)) table-is
+          (subst (λ (x : Sets). Going bytes t₀ (tableOf x n' m) reply' spots from at (i + 1)) (table-is q)
           (turn-held bytes t₀ u reply spots from at i (K .going) lt body body-is f f-is key ke p p-is b
           (record { draft = rowList dn' dk' (r .draft); shows = isShowing (r .note); note = r .note })
           (subst (λ (l : IdList). HeldStep body f l (record { draft = rowList dn' dk' (r .draft); shows = isShowing (r .note); note = r .note })) (sym draft-at) (step .drafted))
           (rowList sn' sk' (r .shown)) (step .showing ∙ ap₂ (λ (x y : IdList). cond (isShowing (r .note)) x y) (sym draft-at) (sym shown-at))
-          n' (ne ∙ sym (ap (λ (k : ℕ). exchangedSet n k (getD on p false) (r .shown .len) (eqb (f .la) 1)) len-is)) reply' re))
+          q qe n' (ne ∙ sym (ap (λ (k : ℕ). exchangedSet n k (getD on p false) (r .shown .len) (eqb (f .la) 1)) len-is)) reply' re))
 
     -- of a key that is not held
     module _ (b : (ltb p (l .count) && eqb (getD (l .keys) p 0) key) ≡ false) where
       pub kept-new : opensIn f (l .count) ≡ true → ((n : ℕ) → getD bytes n 0 < 256) → (t' now' : Sets) → now' ≡ t → t' ≡ openedSets now' p key (eqb (f .la) 1) (withField emptyList body f .list)
           → (sn' sk' dn' dk' : List ℕ) (s' d' : Rows) → Laid (t' .shown) s' sn' sk' → Laid (t' .draft) d' dn' dk' → noted' Opened
-          → Kept bytes t₀ t' n (t' .on) sn' sk' s' dn' dk' d' reply' spots from at (i + 1)
+          → Kept bytes t₀ t' n m (t' .on) (t' .confirmed) sn' sk' s' dn' dk' d' reply' spots from at (i + 1)
       unfolding setsOf
       kept-new open' b256 t' now' ne te sn' sk' dn' dk' s' d' ps pd re =
           let G = turn-new bytes t₀ u reply spots from at i (K .going) lt body body-is f f-is key ke p p-is b open' b256 emptyList (withField emptyList body f) refl refl
           t' (te ∙ ap (λ (x : Sets). openedSets x p key (eqb (f .la) 1) (withField emptyList body f .list)) ne) reply' re in
           let store = ap (λ (x : Table). x .sets) (G .stored) in
           kept (ps .whole) (pd .whole)
-          (unchanged-laid (t' .shown) sn' sk' s' (ps .same ∙ packed-shown t' (G .now' .sets) (G .now-meets) store)) (unchanged-laid (t' .draft) dn' dk' d' (pd .same ∙ packed-draft t' (G .now' .sets) (G .now-meets) store))
-          (subst (λ (x : Sets). Going bytes t₀ (tableOf x n) reply' spots from at (i + 1)) (sym (laid t' (G .now' .sets) (G .now-meets) store sn' sk' dn' dk' s' d' (ps .same) (pd .same))) G)
+          (unchanged-laid (t' .shown) sn' sk' s' (ps .same ∙ packed-shown t' (G .now' .sets) (sets-meet (G .now') (G .now-meets)) store)) (unchanged-laid (t' .draft) dn' dk' d' (pd .same ∙ packed-draft t' (G .now' .sets) (sets-meet (G .now') (G .now-meets)) store))
+          (subst (λ (x : Sets). Going bytes t₀ (tableOf x n m) reply' spots from at (i + 1)) (sym (laid t' (G .now' .sets) (sets-meet (G .now') (G .now-meets)) store sn' sk' dn' dk' s' d' (ps .same) (pd .same))) G)
 
-      pub kept-same : opensIn f (l .count) ≡ false → (m : Note) → m ≡ unheldNote f → noted' m → Kept bytes t₀ l n on sn sk s dn dk d reply' spots from at (i + 1)
+      pub kept-same : opensIn f (l .count) ≡ false → (q : Note) → q ≡ unheldNote f → noted' q → Kept bytes t₀ l n m on ns sn sk s dn dk d reply' spots from at (i + 1)
       unfolding setsOf
-      kept-same shut' m me re =
+      kept-same shut' q qe re =
           kept (K .shown) (K .draft) (K .shown-laid) (K .draft-laid)
-          (turn-same bytes t₀ u reply spots from at i (K .going) lt body body-is f f-is key ke p p-is b shut' m me reply' re)
+          (turn-same bytes t₀ u reply spots from at i (K .going) lt body body-is f f-is key ke p p-is b shut' q qe reply' re)
 
   -- a block
   module _ (a : spots .count ≤ i) (more : 32 ≤ length bytes - at) (b256 : (n : ℕ) → getD bytes n 0 < 256) (part : List ℕ) (part-is : part ≡ take 32 (drop at bytes)) (r : Judged)
-      (judged : JudgedAs part (verdict part) r) (reply' : Reply) (re : reply' ≡ replyTo reply (r .outcome) (r .place)) where
-    pub kept-taken : isDone (r .outcome) ≡ true → Kept bytes t₀ l n on sn sk s dn dk d reply' (r .spots) at (at + 32) 0
+      (judged : JudgedAs part (verdict part) r) (reply' : Reply) (re : reply' ≡ replyTo reply (r .outcome) (r .place)) (m' : ℕ) (me : m' ≡ nextBlock m) where
+    pub kept-taken : isDone (r .outcome) ≡ true → Kept bytes t₀ l n m' on ns sn sk s dn dk d reply' (r .spots) at (at + 32) 0
     kept-taken y =
         record {
           shown = K .shown;
           draft = K .draft;
           shown-laid = K .shown-laid;
           draft-laid = K .draft-laid;
-          going = turn-taken bytes t₀ u reply spots from at i (K .going) a more b256 part part-is r reply' re judged y;
+          going =
+              subst (λ (k : ℕ). Going bytes t₀ (tableOf t n k) reply' (r .spots) at (at + 32) 0) (sym me)
+              (turn-taken bytes t₀ u reply spots from at i (K .going) a more b256 part part-is r reply' re judged y);
         }
 
-    pub kept-refused : isDone (r .outcome) ≡ false → (d' : Rows) → d' ≡ noRows → Kept bytes t₀ l n on sn sk s dn dk d' reply' (r .spots) at (at + 32) 0
+    pub kept-refused : isDone (r .outcome) ≡ false → (d' : Rows) → d' ≡ noRows → Kept bytes t₀ l n m' on ns sn sk s dn dk d' reply' (r .spots) at (at + 32) 0
     unfolding setsOf
     kept-refused y d' de =
         let no-lists : gathered dn dk d' ≡ replicate mostKeys emptyList = ap (gathered dn dk) de ∙ gathered-none dn dk in
@@ -276,6 +278,7 @@ module _ {bytes : List ℕ} {t₀ : Table} {l : Sets} {n : Totals} {on : List Bo
           shown-laid = K .shown-laid;
           draft-laid = subst (Unchanged (l .draft) dn dk) (sym de) (unchanged-none (l .draft) dn dk);
           going =
-              subst (λ (x : List IdList). Going bytes t₀ (tableOf (withLists l on (gathered sn sk s) x) n) reply' (r .spots) at (at + 32) 0) (sym no-lists)
-              (turn-refused bytes t₀ u reply spots from at i (K .going) a more b256 part part-is r reply' re judged y emptyList refl);
+              subst (λ (k : ℕ). Going bytes t₀ (tableOf (withLists l on ns (gathered sn sk s) (gathered dn dk d')) n k) reply' (r .spots) at (at + 32) 0) (sym me)
+              (subst (λ (x : List IdList). Going bytes t₀ (tableOf (withLists l on ns (gathered sn sk s) x) n (nextBlock m)) reply' (r .spots) at (at + 32) 0) (sym no-lists)
+              (turn-refused bytes t₀ u reply spots from at i (K .going) a more b256 part part-is r reply' re judged y emptyList refl));
         }

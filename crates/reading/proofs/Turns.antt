@@ -11,8 +11,6 @@ use lib.Dec.{ltb, eqb}
 use lib.Seq.{take-take, drop-drop}
 use borrow.Author.Tests.{ltb-true, ltb-false, not-true}
 use Rattle.rules.specs.Arrays.{padded}
-use Rattle.rules.specs.declared.Outcome.{Outcome}
-use Rattle.rules.specs.declared.Outcome.the-variants.{Done, NotABlock, CheckFails, WrongFig, WrongField, WrongValue, EmptyStart, NotHeld, ShortBuffer, WrongTable, NotASheet, NotShown, TooMuch, TooManyPieces, BadCode}
 use Rattle.rules.specs.Outcomes.{verdict, noBlock}
 use Rattle.rules.proofs.LinkageLaws.{Refusal, full-refusal, refused-not-done}
 use Rattle.rules.specs.declared.Note.{Note}
@@ -20,10 +18,10 @@ use Rattle.rules.specs.declared.Note.the-variants.{Opened, Full, UnknownKey}
 use Rattle.rules.specs.Field.{Field as FieldOf, keyOf}
 use Rattle.rules.specs.Family.{Act, start, continuation, noList, step, onHeld, fresh, insert, opening, dropOpen}
 use Rattle.rules.specs.Receptions.{heldKeys}
-use Rattle.rules.specs.Collecting.{linkage, Held, Entries, withSets, said, actOf, brings, ifThere, setsMeet, shownSets, mostKeys}
+use Rattle.rules.specs.Collecting.{linkage, Held, Entries, withSets, nextBlock, afterBlock, said, actOf, brings, ifThere, setsMeet, shownSets, mostKeys}
 use Rattle.rules.proofs.FamilyLaws.{Ascends, onHeld-key}
 use Rattle.rules.proofs.Basics.{cases-bool, and-left, and-right}
-use Rattle.rules.proofs.TableRules.{table-rules, table-meets, entry-rules}
+use Rattle.rules.proofs.TableRules.{table-rules, table-meets, sets-meet, entry-rules}
 use Rattle.rules.proofs.Entries.{column-at}
 use Rattle.field.specs.declared.Field.{Field}
 use Rattle.field.specs.declared.FieldStep.the-variants.{Found}
@@ -41,7 +39,7 @@ use Rattle.totals.specs.Kept.{exchangedSet}
 use Rattle.totals.proofs.Laws.{sums-exchanged, sums-opened, shown-closed}
 use Rattle.table.specs.declared.Table.{Table}
 use Rattle.table.specs.Stored.{tableOf, storeTable}
-use Rattle.sets.specs.Stored.{onIn, shownIn, draftIn, storeSets, openedSets, withDraft, past}
+use Rattle.sets.specs.Stored.{onIn, confirmedIn, shownIn, draftIn, storeSets, openedSets, withDraft, past}
 use Rattle.sets.specs.Stored as S
 use Rattle.sets.specs.Places.{placeIn}
 use Rattle.sets.proofs.Entries.{noEntry, Here, entry-at}
@@ -53,11 +51,11 @@ use Rattle.block.specs.declared.Judged.{Judged}
 use Rattle.block.specs.Judged.{fieldIn, noSpot}
 use Rattle.block.proofs.Meaning.{bodyAt, SpotIs, SpotsAre, JudgedAs, isTaken, isRefused, isNoBlock}
 use Rattle.reading.specs.declared.Reply.{Reply}
-use Rattle.reading.specs.Steps.{ListStep, isShowing, steppedAs, HeldStep, opensIn, unheldNote, isDone}
+use Rattle.reading.specs.Steps.{ListStep, isShowing, steppedAs, HeldStep, confirmedBy, opensIn, unheldNote, isDone}
 use Rattle.reading.specs.Runs.{replyTo, replyWith}
 use Rattle.reading.proofs.HeldLaws.{act-none, act-more, act-start}
-use Rattle.reading.proofs.StepLaws.{at', step-here, step-new, step-full, step-unknown-more, step-unknown-none, store-new, held-state, held-shown}
-use Rattle.reading.proofs.RunLaws.{Going, field-now, spot-now, good-now, more-fields, few-fields, few-full, going-next, going-taken, going-refused, step-meets, part-bytes}
+use Rattle.reading.proofs.StepLaws.{at', step-here, step-new, step-full, step-unknown-more, step-unknown-none, store-new, held-state, held-shown, held-number}
+use Rattle.reading.proofs.RunLaws.{done-is, Going, field-now, spot-now, good-now, more-fields, few-fields, few-full, going-next, going-taken, going-refused, step-meets, part-bytes}
 
 -- ---- a part of a part
 
@@ -102,6 +100,18 @@ module _ (bytes : List ℕ) (t₀ t : Table) (reply : Reply) (spots : Spots) (fr
 
   c : Entries
   c = G .now' .sets
+
+  -- the number of the present block
+  n : ℕ
+  n = G .now' .blocks
+
+  blocks-are : t .blocks ≡ n
+  unfolding n
+  blocks-are = ap (λ (u : Table). u .blocks) (G .stored)
+
+  c-meets : setsMeet c ≡ true
+  unfolding c
+  c-meets = sets-meet (G .now') (G .now-meets)
 
   sets-are : t .sets ≡ storeSets c
   unfolding c
@@ -182,18 +192,22 @@ module _ (bytes : List ℕ) (t₀ t : Table) (reply : Reply) (spots : Spots) (fr
     unfolding storeSets draftIn
     draft-is = column draftIn emptyList past (λ u. u .draft) refl
 
+    numbered : getD (t .sets .confirmed) p 0 ≡ x .stamp
+    unfolding storeSets confirmedIn
+    numbered = column confirmedIn 0 0 (λ u. u .confirmed) refl
+
     draft-meets : ifThere (x .key) (x .draft) ≡ true
     unfolding c j x
-    draft-meets = entry-rules _ .0 (entry-at c (table-rules c .0 (G .now-meets) .entries) j within) .draft
+    draft-meets = entry-rules _ .0 (entry-at c (table-rules c .0 c-meets .entries) j within) .draft
 
     after : Held × Note
-    after = onHeld linkage x (eqb (g .la) 1) tt (actOf g)
+    after = onHeld linkage x (eqb (g .la) 1) n (actOf g)
 
     result : r ≡ steppedAs after
     unfolding HeldStep after
     result =
-        held x (eqb (g .la) 1) at-place (spot .found .0) found reserved draft-meets draft-is
-        ∙ ap (λ (y : FieldOf). steppedAs (onHeld linkage x (eqb (g .la) 1) tt (actOf y))) means
+        held x (eqb (g .la) 1) n at-place (spot .found .0) found reserved draft-meets draft-is
+        ∙ ap (λ (y : FieldOf). steppedAs (onHeld linkage x (eqb (g .la) 1) n (actOf y))) means
 
     -- what is shown then: the list that was open, or the set as it was
     shows-is : r .shows ≡ isShowing (after .1)
@@ -203,55 +217,68 @@ module _ (bytes : List ℕ) (t₀ t : Table) (reply : Reply) (spots : Spots) (fr
     shown-then : storeMaybe (after .0 .shown) ≡ storeMaybe (cond (r .shows) (x .draft) (x .shown))
     unfolding after
     shown-then =
-        ap storeMaybe (held-shown x (eqb (g .la) 1) (actOf g))
+        ap storeMaybe (held-shown x (eqb (g .la) 1) n (actOf g))
         ∙ ap (λ (b : Bool). storeMaybe (cond b (x .draft) (x .shown))) (sym shows-is)
 
     state-is : eqb (f .la) 1 ≡ after .0 .state
     unfolding after
-    state-is = la-is ∙ sym (held-state x (eqb (g .la) 1) (actOf g))
+    state-is = la-is ∙ sym (held-state x (eqb (g .la) 1) n (actOf g))
 
-    stored-is : (shown : IdList) → shown ≡ storeMaybe (after .0 .shown) → setAt (t .sets) p (eqb (f .la) 1) shown (r .draft) ≡ storeSets (set c j (after .0))
+    -- its number then: the block's where the list that was open is shown
+    abbrev Confirms : ℕ → Type 0
+    Confirms m = m ≡ confirmedBy (r .note) (getD (t .sets .confirmed) p 0) (t .blocks)
+
+    number-is : (m : ℕ) → Confirms m → m ≡ after .0 .stamp
+    unfolding after steppedAs
+    number-is m q =
+        q ∙ (λ k. confirmedBy (result k .note) (numbered k) (blocks-are k)) ∙ sym (held-number x (eqb (g .la) 1) n (actOf g))
+
+    stored-is : (m : ℕ) → Confirms m → (shown : IdList) → shown ≡ storeMaybe (after .0 .shown)
+        → setAt (t .sets) p (eqb (f .la) 1) m shown (r .draft) ≡ storeSets (set c j (after .0))
     unfolding j x after steppedAs
-    stored-is shown e =
-        (λ k. setAt (sets-are k) (place k) (state-is k) (e k) (result k .draft))
-        ∙ sym (store-set c j (after .0) within (onHeld-key linkage x (eqb (g .la) 1) tt (actOf g)))
+    stored-is m q shown e =
+        (λ k. setAt (sets-are k) (place k) (state-is k) (number-is m q k) (e k) (result k .draft))
+        ∙ sym (store-set c j (after .0) within (onHeld-key linkage x (eqb (g .la) 1) n (actOf g)))
 
     after-meets : setsMeet (set c j (after .0)) ≡ true
-    unfolding c g j x after
-    after-meets = step-meets c (set c j (after .0)) (after .1) g (good-now bytes t₀ t reply spots from at i G h) (G .now-meets) (step-here c g (here b))
+    unfolding c g j x n after
+    after-meets =
+        sets-meet (withSets (G .now') (set c j (after .0)))
+        (step-meets (G .now') (set c j (after .0)) (after .1) g (good-now bytes t₀ t reply spots from at i G h) (G .now-meets) (step-here n c g (here b)))
 
     -- the totals by what changes: the set that was shown, and the one that is
     abbrev Exchanged : IdList → Totals → Type 0
-    Exchanged shown n = n ≡ exchangedSet (t .totals) (getD (t .sets .shown) p past .len) (getD (t .sets .on) p false) (shown .len) (eqb (f .la) 1)
+    Exchanged shown m = m ≡ exchangedSet (t .totals) (getD (t .sets .shown) p past .len) (getD (t .sets .on) p false) (shown .len) (eqb (f .la) 1)
 
-    counted-is : (shown : IdList) → shown ≡ storeMaybe (after .0 .shown) → (n : Totals) → Exchanged shown n → n ≡ sums (shownSets (set c j (after .0)))
+    counted-is : (shown : IdList) → shown ≡ storeMaybe (after .0 .shown) → (u : Totals) → Exchanged shown u → u ≡ sums (shownSets (set c j (after .0)))
     unfolding c j x
-    counted-is shown e n q =
+    counted-is shown e u q =
         q ∙ (λ k. exchangedSet (totals-are k) (shown-is k .len) (on-is k) (e k .len) (state-is k))
-        ∙ sums-exchanged c (G .now-meets) j within (after .0) after-meets
+        ∙ sums-exchanged c c-meets j within (after .0) after-meets
 
-    turn-with : (shown : IdList) → shown ≡ storeMaybe (after .0 .shown) → (n : Totals) → Exchanged shown n → (reply' : Reply) → reply' ≡ replyWith reply i (r .note)
-        → Going bytes t₀ (tableOf (setAt (t .sets) p (eqb (f .la) 1) shown (r .draft)) n) reply' spots from at (i + 1)
-    unfolding c g j x after steppedAs totalsOf
-    turn-with shown e n v reply' q =
+    turn-with : (shown : IdList) → shown ≡ storeMaybe (after .0 .shown) → (m : ℕ) → Confirms m → (u : Totals) → Exchanged shown u
+        → (reply' : Reply) → reply' ≡ replyWith reply i (r .note)
+        → Going bytes t₀ (tableOf (setAt (t .sets) p (eqb (f .la) 1) m shown (r .draft)) u (t .blocks)) reply' spots from at (i + 1)
+    unfolding c g j x n after steppedAs totalsOf
+    turn-with shown e m w u v reply' q =
         going-next bytes t₀ t reply spots from at i G h _ reply' (after .1) (set c j (after .0))
-        (step-here c g (here b)) (ap₂ tableOf (stored-is shown e) (counted-is shown e n v)) (q ∙ ap (λ (y : ListStep). replyWith reply i (y .note)) result)
+        (step-here n c g (here b)) (λ k. tableOf (stored-is m w shown e k) (counted-is shown e u v k) (blocks-are k)) (q ∙ ap (λ (y : ListStep). replyWith reply i (y .note)) result)
 
     shown-or : (b : Bool) → cond b (getD (t .sets .draft) p past) (getD (t .sets .shown) p past) ≡ storeMaybe (cond b (x .draft) (x .shown))
     shown-or true = draft-is
     shown-or false = shown-is
 
-    pub turn-held : (shown : IdList) → shown ≡ cond (r .shows) (getD (t .sets .draft) p past) (getD (t .sets .shown) p past) → (n : Totals) → Exchanged shown n
-        → (reply' : Reply) → reply' ≡ replyWith reply i (r .note)
-        → Going bytes t₀ (tableOf (setAt (t .sets) p (eqb (f .la) 1) shown (r .draft)) n) reply' spots from at (i + 1)
-    turn-held shown e n v reply' q = turn-with shown (e ∙ shown-or (r .shows) ∙ sym shown-then) n v reply' q
+    pub turn-held : (shown : IdList) → shown ≡ cond (r .shows) (getD (t .sets .draft) p past) (getD (t .sets .shown) p past) → (m : ℕ) → Confirms m
+        → (u : Totals) → Exchanged shown u → (reply' : Reply) → reply' ≡ replyWith reply i (r .note)
+        → Going bytes t₀ (tableOf (setAt (t .sets) p (eqb (f .la) 1) m shown (r .draft)) u (t .blocks)) reply' spots from at (i + 1)
+    turn-held shown e m w u v reply' q = turn-with shown (e ∙ shown-or (r .shows) ∙ sym shown-then) m w u v reply' q
 
   -- ---- a key that is not held
 
   module _ (b : (ltb p (t .sets .count) && eqb (getD (t .sets .keys) p 0) key) ≡ false) where
     ascending : Ascends linkage (heldKeys linkage c)
     unfolding c
-    ascending = table-meets c .0 (G .now-meets) .ascend
+    ascending = table-meets c .0 c-meets .ascend
 
     count-is : t .sets .count ≡ length c
     unfolding c
@@ -263,8 +290,8 @@ module _ (bytes : List ℕ) (t₀ t : Table) (reply : Reply) (spots : Spots) (fr
     -- a start, and room
     pub turn-new : opensIn f (t .sets .count) ≡ true → ((n : ℕ) → getD bytes n 0 < 256) → (l : IdList) (w : Grown) → l ≡ emptyList → w ≡ withField l body f
         → (t' : Sets) → t' ≡ openedSets (t .sets) p key (eqb (f .la) 1) (w .list) → (reply' : Reply) → reply' ≡ replyWith reply i Opened
-        → Going bytes t₀ (tableOf t' (t .totals)) reply' spots from at (i + 1)
-    unfolding c g opensIn fresh totalsOf
+        → Going bytes t₀ (tableOf t' (t .totals) (t .blocks)) reply' spots from at (i + 1)
+    unfolding c g n opensIn fresh totalsOf
     turn-new open' b256 l w le we t' te reply' q =
         let has : hasListIn f ≡ true = and-left (hasListIn f) _ (and-left (hasListIn f && not (continues f)) _ open') in
         let starts : continues f ≡ false = not-true (continues f) (and-right (hasListIn f) _ (and-left (hasListIn f && not (continues f)) _ open')) in
@@ -274,11 +301,11 @@ module _ (bytes : List ℕ) (t₀ t : Table) (reply : Reply) (spots : Spots) (fr
         ap (λ (x : Grown). x .list) (we ∙ ap (λ (x : IdList). withField x body f) le ∙ with-none body f (inside b256) reserved)
         ∙ ap (λ (y : FieldOf). storeList (opening linkage (brings y))) means in
         let new = fresh linkage (keyOf g) (eqb (g .la) 1) (brings g) in
-        going-next bytes t₀ t reply spots from at i G h (tableOf t' (t .totals)) reply' Opened (insert linkage new c)
-        (step-new c g ascending (nowhere b) act few)
-        (ap₂ tableOf
-        (te ∙ (λ k. openedSets (sets-are k) p (key-is k) (la-is k) (list' k)) ∙ sym (store-new c (keyOf g) p (eqb (g .la) 1) (brings g) (nowhere b) place few))
-        (totals-are ∙ sym (sums-opened c new refl (nowhere b))))
+        going-next bytes t₀ t reply spots from at i G h (tableOf t' (t .totals) (t .blocks)) reply' Opened (insert linkage new c)
+        (step-new n c g ascending (nowhere b) act few)
+        (let ss = te ∙ (λ k. openedSets (sets-are k) p (key-is k) (la-is k) (list' k)) ∙ sym (store-new c (keyOf g) p (eqb (g .la) 1) (brings g) (nowhere b) place few) in
+        let ns = totals-are ∙ sym (sums-opened c new refl (nowhere b)) in
+        λ k. tableOf (ss k) (ns k) (blocks-are k))
         q
       where
         inside : ((n : ℕ) → getD bytes n 0 < 256) → InBody body f
@@ -288,22 +315,22 @@ module _ (bytes : List ℕ) (t₀ t : Table) (reply : Reply) (spots : Spots) (fr
             found .field
 
     -- anything else changes nothing
-    same : (n : Note) → step linkage c (said g) ≡ (c, n) → (reply' : Reply) → reply' ≡ replyWith reply i n → Going bytes t₀ t reply' spots from at (i + 1)
-    unfolding c g
-    same n e reply' q = going-next bytes t₀ t reply spots from at i G h t reply' n c e (G .stored) q
+    same : (m : Note) → step linkage c (said n g) ≡ (c, m) → (reply' : Reply) → reply' ≡ replyWith reply i m → Going bytes t₀ t reply' spots from at (i + 1)
+    unfolding c g n
+    same m e reply' q = going-next bytes t₀ t reply spots from at i G h t reply' m c e (G .stored) q
 
-    pub turn-same : opensIn f (t .sets .count) ≡ false → (n : Note) → n ≡ unheldNote f → (reply' : Reply) → reply' ≡ replyWith reply i n → Going bytes t₀ t reply' spots from at (i + 1)
+    pub turn-same : opensIn f (t .sets .count) ≡ false → (m : Note) → m ≡ unheldNote f → (reply' : Reply) → reply' ≡ replyWith reply i m → Going bytes t₀ t reply' spots from at (i + 1)
     unfolding opensIn unheldNote
-    turn-same shut' n ne reply' q =
+    turn-same shut' m ne reply' q =
         cases-bool (hasListIn f)
         (λ has. cases-bool (continues f)
-        (λ more. same UnknownKey (step-unknown-more c g ascending (nowhere b) (act-is noList (λ y. continuation (brings y)) (act-more body f has more))) reply'
+        (λ more. same UnknownKey (step-unknown-more n c g ascending (nowhere b) (act-is noList (λ y. continuation (brings y)) (act-more body f has more))) reply'
         (q ∙ ap (replyWith reply i) (ne ∙ rw (has, more))))
         (λ starts.
         let full : mostKeys ≤ length c = subst (λ (k : ℕ). mostKeys ≤ k) count-is (ltb-false (t .sets .count) mostKeys (rw (has, starts) at shut')) in
-        same Full (step-full c g ascending (nowhere b) (act-is noList (λ y. start (brings y)) (act-start body f has starts)) full) reply'
+        same Full (step-full n c g ascending (nowhere b) (act-is noList (λ y. start (brings y)) (act-start body f has starts)) full) reply'
         (q ∙ ap (replyWith reply i) (ne ∙ rw (has, starts)))))
-        (λ has. same UnknownKey (step-unknown-none c g ascending (nowhere b) (act-is noList (λ y. noList) (act-none body f has))) reply'
+        (λ has. same UnknownKey (step-unknown-none n c g ascending (nowhere b) (act-is noList (λ y. noList) (act-none body f has))) reply'
         (q ∙ ap (replyWith reply i) (ne ∙ rw has)))
 
 -- ---- a refused block
@@ -330,29 +357,10 @@ module _ (bytes : List ℕ) (t₀ t : Table) (reply : Reply) (spots : Spots) (fr
       }
 
   pub table-short : t .sets .count ≤ mostKeys
-  table-short = omega (arith, count-of (t .sets) (G .now' .sets) (ap (λ (u : Table). u .sets) (G .stored)), table-rules (G .now' .sets) .0 (G .now-meets) .short)
+  table-short = omega (arith, count-of (t .sets) (G .now' .sets) (ap (λ (u : Table). u .sets) (G .stored)), table-rules (G .now' .sets) .0 (sets-meet (G .now') (G .now-meets)) .short)
 
   pub place-short : (p k : ℕ) → (ltb p (t .sets .count) && eqb (getD (t .sets .keys) p 0) k) ≡ true → p < mostKeys
   place-short p k b = omega (arith, table-short, ltb-true p (t .sets .count) (and-left (ltb p (t .sets .count)) _ b))
-
--- an outcome that is done is 0
-done-is : (o : Outcome) → isDone o ≡ true → o ≡ Done
-unfolding isDone
-done-is Done e = refl
-done-is NotABlock e = absurd (false≢true e)
-done-is CheckFails e = absurd (false≢true e)
-done-is WrongFig e = absurd (false≢true e)
-done-is WrongField e = absurd (false≢true e)
-done-is WrongValue e = absurd (false≢true e)
-done-is EmptyStart e = absurd (false≢true e)
-done-is NotHeld e = absurd (false≢true e)
-done-is ShortBuffer e = absurd (false≢true e)
-done-is WrongTable e = absurd (false≢true e)
-done-is NotASheet e = absurd (false≢true e)
-done-is NotShown e = absurd (false≢true e)
-done-is TooMuch e = absurd (false≢true e)
-done-is TooManyPieces e = absurd (false≢true e)
-done-is BadCode e = absurd (false≢true e)
 
 -- a judged block has at most 14 spots
 pub judged-few : (fib : List ℕ) (r : Judged) → JudgedAs fib (verdict fib) r → r .spots .count ≤ 14
@@ -376,21 +384,23 @@ module _ (bytes : List ℕ) (t₀ t : Table) (reply : Reply) (spots : Spots) (fr
   never-none v = subst (Refusal fib) (ap verdict (sym part-is) ∙ v) (full-refusal fib full)
 
   closed-table : (n : IdList) → n ≡ emptyList
-      → tableOf (withDraft (t .sets) (replicate mostKeys n)) (t .totals) ≡ storeTable (withSets (G .now') (dropOpen linkage (G .now' .sets)))
+      → tableOf (withDraft (t .sets) (replicate mostKeys n)) (t .totals) (nextBlock (t .blocks)) ≡ storeTable (afterBlock (G .now') (dropOpen linkage (G .now' .sets)))
   unfolding totalsOf
   closed-table n ne =
-      ap₂ (λ (u : Table) (x : IdList). tableOf (withDraft (u .sets) (replicate mostKeys x)) (u .totals)) (G .stored) ne
-      ∙ ap₂ tableOf (sym (store-closed (G .now' .sets) (table-rules (G .now' .sets) .0 (G .now-meets) .short))) (ap sums (sym (shown-closed (G .now' .sets))))
+      let few = table-rules (G .now' .sets) .0 (sets-meet (G .now') (G .now-meets)) .short in
+      ap₂ (λ (u : Table) (x : IdList). tableOf (withDraft (u .sets) (replicate mostKeys x)) (u .totals) (nextBlock (u .blocks))) (G .stored) ne
+      ∙ ap₂ (λ (s : Sets) (u : Totals). tableOf s u (nextBlock (G .now' .blocks))) (sym (store-closed (G .now' .sets) few)) (ap sums (sym (shown-closed (G .now' .sets))))
 
-  pub turn-taken : JudgedAs part (verdict part) r → isDone (r .outcome) ≡ true → Going bytes t₀ t reply' (r .spots) at (at + 32) 0
+  pub turn-taken : JudgedAs part (verdict part) r → isDone (r .outcome) ≡ true
+      → Going bytes t₀ (tableOf (t .sets) (t .totals) (nextBlock (t .blocks))) reply' (r .spots) at (at + 32) 0
   turn-taken (isTaken fs v d e p) y =
-      going-taken bytes t₀ t reply spots from at i G h l b256 fs (r .spots) reply' (ap verdict (sym part-is) ∙ v) (subst (λ (x : List ℕ). SpotsAre x (r .spots) fs) part-is p)
-      (reply-is ∙ ap₂ (replyTo reply) d e)
+      going-taken bytes t₀ t reply spots from at i G h l b256 fs _ (r .spots) reply' (ap verdict (sym part-is) ∙ v) (subst (λ (x : List ℕ). SpotsAre x (r .spots) fs) part-is p)
+      (reply-is ∙ ap₂ (replyTo reply) d e) (unfold totalsOf in ap (λ (u : Table). tableOf (u .sets) (u .totals) (nextBlock (u .blocks))) (G .stored))
   turn-taken (isRefused q w v d e z) y = absurd (refused-not-done part q w v (done-is q (sym (ap isDone d) ∙ y)))
   turn-taken (isNoBlock v d e z) y = absurd (never-none v)
 
   pub turn-refused : JudgedAs part (verdict part) r → isDone (r .outcome) ≡ false → (none'' : IdList) → none'' ≡ emptyList
-      → Going bytes t₀ (tableOf (withDraft (t .sets) (replicate mostKeys none'')) (t .totals)) reply' (r .spots) at (at + 32) 0
+      → Going bytes t₀ (tableOf (withDraft (t .sets) (replicate mostKeys none'')) (t .totals) (nextBlock (t .blocks))) reply' (r .spots) at (at + 32) 0
   unfolding isDone
   turn-refused (isTaken fs v d e p) y n ne = absurd (true≢false (sym (ap isDone d) ∙ y))
   turn-refused (isRefused q w v d e z) y n ne =

@@ -311,6 +311,12 @@ refused-keeps t h =
     after-block-meets t _ h (meets-drop-open (t .sets) (table-meets (t .sets) .0 (m .sets)))
     (within-drop-open n (t .sets) (within-more (t .blocks) n (t .sets) (next-more (t .blocks) (m .most)) (m .within)))
 
+-- and so does counting alone
+pub counted-keeps : (t : Content) → meets t ≡ true → meets (afterBlock t (t .sets)) ≡ true
+counted-keeps t h =
+    let m = content-meets t .0 h in
+    after-block-meets t _ h (table-meets (t .sets) .0 (m .sets)) (within-more (t .blocks) (nextBlock (t .blocks)) (t .sets) (next-more (t .blocks) (m .most)) (m .within))
+
 pub meets-block : (t : Content) (fib : List ℕ) → Bytes fib → meets t ≡ true → meets (readBlock t fib .left) ≡ true
 meets-block t fib b m =
     cases-verdict (verdict fib)

@@ -26,7 +26,9 @@ use Rattle.block.proofs.no_spots.Reads as no-spots-reads
 use Rattle.field.proofs.Field.key.Reads as key-reads
 use Rattle.reading.proofs.Reply.noted.Reads as noted-reads
 use Rattle.reading.proofs.Reply.to.Reads as to-reads
+use Rattle.reading.proofs.confirmed_by.Reads as confirmed-by-reads
 use Rattle.reading.proofs.is_done.Reads as is-done-reads
+use Rattle.reading.proofs.next_block.Reads as next-block-reads
 use Rattle.reading.proofs.opened.Reads as opened-reads
 use Rattle.reading.proofs.opens.Reads as opens-reads
 use Rattle.reading.proofs.rows.Rows.none.Reads as none-reads
@@ -40,18 +42,18 @@ use Rattle.reading.proofs.unheld_note.Reads as unheld-note-reads
 use Rattle.sets.proofs.place_of.Reads as place-of-reads
 
 abbrev Inv-loop : tie.InvT-loop
-Inv-loop bytes sn₀ sk₀ dn₀ dk₀ laid₀ totals₀ shown₀ draft₀ on₀ closed reply₀ spots₀ from₀ at₀ i₀ sn sk dn dk laid totals shown draft on reply spots from at i =
-    Kept bytes (tableOf (setsOf laid₀ on₀ sn₀ sk₀ shown₀ dn₀ dk₀ draft₀) totals₀) laid totals on sn sk shown dn dk draft reply spots from at i
+Inv-loop bytes sn₀ sk₀ dn₀ dk₀ laid₀ totals₀ shown₀ draft₀ on₀ confirmed₀ blocks₀ closed reply₀ spots₀ from₀ at₀ i₀ sn sk dn dk laid totals shown draft on confirmed blocks reply spots from at i =
+    Kept bytes (tableOf (setsOf laid₀ on₀ confirmed₀ sn₀ sk₀ shown₀ dn₀ dk₀ draft₀) totals₀ blocks₀) laid totals blocks on confirmed sn sk shown dn dk draft reply spots from at i
 
 abbrev μ-loop : tie.MeasureT-loop
-μ-loop bytes sn₀ sk₀ dn₀ dk₀ laid₀ totals₀ shown₀ draft₀ on₀ closed reply₀ spots₀ from₀ at₀ i₀ sn sk dn dk laid totals shown draft on reply spots from at i =
+μ-loop bytes sn₀ sk₀ dn₀ dk₀ laid₀ totals₀ shown₀ draft₀ on₀ confirmed₀ blocks₀ closed reply₀ spots₀ from₀ at₀ i₀ sn sk dn dk laid totals shown draft on confirmed blocks reply spots from at i =
     (length bytes - at) + (spots .count - i)
 
 -- ---- contexts: what was known earlier on, from where the loop begins and from where a field's place is known
 
 -- the function's start
 abbrev start : (c : tie.At-loop Inv-loop μ-loop) → tie.Start Inv-loop μ-loop
-start c = c .before .before .before .before .before .before .before .before .before .before .before .before .before .before .before .before .before .before .before .before
+start c = c .before .before .before .before .before .before .before .before .before .before .before .before .before .before .before .before .before .before .before .before .before
 
 -- the turn at a field; its field read, its key, its place
 abbrev turn : (c : tie.After-stands-at Inv-loop μ-loop) → tie.Then1 Inv-loop μ-loop
@@ -87,7 +89,7 @@ abbrev gathered-now : (c : tie.After-opened Inv-loop μ-loop) → tie.After-sets
 gathered-now c = c .before .before
 
 abbrev opened-now : (c : tie.After-sk6 Inv-loop μ-loop) → tie.After-opened Inv-loop μ-loop
-opened-now c = c .before .before .before .before
+opened-now c = c .before .before .before .before .before
 
 abbrev sets-laid : (c : tie.After-dk6 Inv-loop μ-loop) → tie.After-sk6 Inv-loop μ-loop
 sets-laid c = c .before .before .before .before .before .before
@@ -102,23 +104,23 @@ bytes-fit : (c : tie.Start Inv-loop μ-loop) → length (c .args .bytes .now) < 
 bytes-fit c = search needs
 
 bytes-of : (c : tie.At-loop Inv-loop μ-loop) → (n : ℕ) → getD (start c .args .bytes .now) n 0 < 256
-bytes-of c n = c .before .before .before .before .before .before .before .before .before .before .before .before .before .before .before .before .before .before .before .shared-slice-known .given n .fits
+bytes-of c n = c .before .before .before .before .before .before .before .before .before .before .before .before .before .before .before .before .before .before .before .before .shared-slice-known .given n .fits
 
 next-fits : (i : ℕ) → i < 14 → i + 1 < 2 ^ 64
 next-fits i h = omega arith
 
 -- what is laid out at first: the given table
 abbrev laid-out : (c : tie.After-no-spots Inv-loop μ-loop) → tie.Start Inv-loop μ-loop
-laid-out c = c .before .before .before .before .before .before .before .before .before .before .before .before .before .before .before .before .before .before .before
+laid-out c = c .before .before .before .before .before .before .before .before .before .before .before .before .before .before .before .before .before .before .before .before
 
 abbrev sets-out : (c : tie.After-no-spots Inv-loop μ-loop) → tie.After-scatter Inv-loop μ-loop
-sets-out c = c .before .before .before .before .before .before .before .before .before .before .before .before
+sets-out c = c .before .before .before .before .before .before .before .before .before .before .before .before .before
 
 abbrev lists-out : (c : tie.After-no-spots Inv-loop μ-loop) → tie.After-scatter2 Inv-loop μ-loop
-lists-out c = c .before .before .before .before .before .before
+lists-out c = c .before .before .before .before .before .before .before
 
 laid-first : (c : tie.After-no-spots Inv-loop μ-loop)
-    → tableOf (setsOf (laid-out c .args .table .sets) (laid-out c .args .table .sets .on) (sets-out c .scatter .last .1 .0) (sets-out c .scatter .last .1 .1 .0) (sets-out c .scatter .result) (lists-out c .scatter2 .last .1 .0) (lists-out c .scatter2 .last .1 .1 .0) (lists-out c .scatter2 .result)) (laid-out c .args .table .totals) ≡ laid-out c .args .table
+    → tableOf (setsOf (laid-out c .args .table .sets) (laid-out c .args .table .sets .on) (laid-out c .args .table .sets .confirmed) (sets-out c .scatter .last .1 .0) (sets-out c .scatter .last .1 .1 .0) (sets-out c .scatter .result) (lists-out c .scatter2 .last .1 .0) (lists-out c .scatter2 .last .1 .1 .0) (lists-out c .scatter2 .result)) (laid-out c .args .table .totals) (laid-out c .args .table .blocks) ≡ laid-out c .args .table
 laid-first c = first-table (laid-out c .args .bytes .now) _ (laid-out c .pre) _ _ _ _ _ _ (sets-out c .scatter .ensures) (lists-out c .scatter2 .ensures)
 
 -- the present field stands within its block
@@ -311,45 +313,60 @@ array-read-exchanged c = let w = held-place (stepped (c .before)) in omega arith
 exchanged-requires : tie.Need-exchanged-requires Inv-loop μ-loop
 exchanged-requires c κs = search needs
 
+mul-confirmed-by : tie.Need-mul-confirmed-by Inv-loop μ-loop
+mul-confirmed-by c = let w = held-place (stepped (c .before .before .before)) in omega arith
+
+array-read-confirmed-by : tie.Need-array-read-confirmed-by Inv-loop μ-loop
+array-read-confirmed-by c = let w = held-place (stepped (c .before .before .before)) in omega arith
+
+confirmed-by-requires : tie.Need-confirmed-by-requires Inv-loop μ-loop
+confirmed-by-requires c κs = search needs
+
+mul-confirmed : tie.Need-mul-confirmed Inv-loop μ-loop
+mul-confirmed c = let w = held-place (stepped (c .before .before .before .before)) in omega arith
+
+array-write-confirmed : tie.Need-array-write-confirmed Inv-loop μ-loop
+array-write-confirmed c = let w = held-place (stepped (c .before .before .before .before)) in omega arith
+
 mul-shown : tie.Need-mul-shown Inv-loop μ-loop
-mul-shown c = let w = held-place (stepped (c .before .before .before)) in omega arith
+mul-shown c = let w = held-place (stepped (c .before .before .before .before)) in omega arith
 
 element-write-shown : tie.Need-element-write-shown Inv-loop μ-loop
-element-write-shown c = let w = held-place (stepped (c .before .before .before)) in omega arith
+element-write-shown c = let w = held-place (stepped (c .before .before .before .before)) in omega arith
 
 element-write-shown-2 : tie.Need-element-write-shown-2 Inv-loop μ-loop
-element-write-shown-2 c = let w = held-place (stepped (c .before .before .before)) in omega arith
+element-write-shown-2 c = let w = held-place (stepped (c .before .before .before .before)) in omega arith
 
 element-write-shown-3 : tie.Need-element-write-shown-3 Inv-loop μ-loop
-element-write-shown-3 c = let w = held-place (stepped (c .before .before .before)) in omega arith
+element-write-shown-3 c = let w = held-place (stepped (c .before .before .before .before)) in omega arith
 
 mul-draft : tie.Need-mul-draft Inv-loop μ-loop
-mul-draft c = let w = held-place (stepped (c .before .before .before)) in omega arith
+mul-draft c = let w = held-place (stepped (c .before .before .before .before)) in omega arith
 
 element-write-draft : tie.Need-element-write-draft Inv-loop μ-loop
-element-write-draft c = let w = held-place (stepped (c .before .before .before)) in omega arith
+element-write-draft c = let w = held-place (stepped (c .before .before .before .before)) in omega arith
 
 element-write-draft-2 : tie.Need-element-write-draft-2 Inv-loop μ-loop
-element-write-draft-2 c = let w = held-place (stepped (c .before .before .before)) in omega arith
+element-write-draft-2 c = let w = held-place (stepped (c .before .before .before .before)) in omega arith
 
 element-write-draft-3 : tie.Need-element-write-draft-3 Inv-loop μ-loop
-element-write-draft-3 c = let w = held-place (stepped (c .before .before .before)) in omega arith
+element-write-draft-3 c = let w = held-place (stepped (c .before .before .before .before)) in omega arith
 
 array-write-on : tie.Need-array-write-on Inv-loop μ-loop
-array-write-on c = let w = held-place (stepped (c .before .before .before .before)) in omega arith
+array-write-on c = let w = held-place (stepped (c .before .before .before .before .before)) in omega arith
 
 noted-requires : tie.Need-noted-requires Inv-loop μ-loop
-noted-requires c κs = noted-fits (turn (stepped (c .before .before .before .before) .before))
+noted-requires c κs = noted-fits (turn (stepped (c .before .before .before .before .before) .before))
 
 add-i : tie.Need-add-i Inv-loop μ-loop
-add-i c = record { fits = next-fits _ (fits (turn (stepped (c .before .before .before .before .before) .before)) .few) }
+add-i c = record { fits = next-fits _ (fits (turn (stepped (c .before .before .before .before .before .before) .before)) .few) }
 
 loop-less : tie.Need-loop-less Inv-loop μ-loop
-loop-less c = let w = turn (stepped (c .before .before .before .before .before) .before) .if1 .taken in omega arith
+loop-less c = let w = turn (stepped (c .before .before .before .before .before .before) .before) .if1 .taken in omega arith
 
 loop-again : tie.Need-loop-again Inv-loop μ-loop
 loop-again c =
-    let rows = c .before .before .before .before .before in
+    let rows = c .before .before .before .before .before .before in
     let after = rows .before .before .before .before in
     let y = after .on-held .last in
     let h = stepped rows in
@@ -361,7 +378,7 @@ loop-again c =
     (set-row (both-rows rows) .row-at .ensures) (both-rows rows .row-at2 .ensures) (after .on-held .result) (y .0) (y .1 .0) (y .1 .1 .1 .0) (y .1 .1 .1 .1 .0) (after .on-held .ensures)
     (rows .before .before .before .sn4 .given ∙ part-long _ _ (row-size p) w _ (K .shown .numbers)) (rows .before .before .sk4 .given ∙ part-long _ _ (row-size p) w _ (K .shown .kinds))
     (rows .before .dn4 .given ∙ part-long _ _ (row-size p) w _ (K .draft .numbers)) (rows .dk4 .given ∙ part-long _ _ (row-size p) w _ (K .draft .kinds))
-    _ (c .before .before .exchanged .ensures) (c .noted .ensures)
+    _ (c .before .before .confirmed-by .ensures) _ (c .before .before .before .exchanged .ensures) (c .noted .ensures)
 
 opens-requires : tie.Need-opens-requires Inv-loop μ-loop
 opens-requires c κs = search needs
@@ -396,7 +413,7 @@ opened-requires : tie.Need-opened-requires Inv-loop μ-loop
 opened-requires c κs = search needs
 
 slice-aggregate-scatter-5 : tie.Need-slice-aggregate-scatter-5 Inv-loop μ-loop
-slice-aggregate-scatter-5 c = sym (turn (new-key (gathered-now (c .before .before .before)) .before) .before .loop .inv .shown .numbers)
+slice-aggregate-scatter-5 c = sym (turn (new-key (gathered-now (c .before .before .before .before)) .before) .before .loop .inv .shown .numbers)
 
 slice-aggregate-scatter-6 : tie.Need-slice-aggregate-scatter-6 Inv-loop μ-loop
 slice-aggregate-scatter-6 c = sym (opening c .before .loop .inv .shown .kinds)
@@ -477,10 +494,13 @@ returns : tie.Need-returns Inv-loop μ-loop
 returns c =
     let b = c .before .before .before .before .before .before in
     let l = b .before .before in
-    kept-end (l .loop .inv) (b .before .if1 .left) (b .if4 .taken) (start l .args .table) (laid-first (l .before)) (c .of .result) (c .of .ensures ∙ ap (λ (x : Sets). tableOf x (l .loop .totals)) (c .before .sets-of2 .ensures))
+    kept-end (l .loop .inv) (b .before .if1 .left) (b .if4 .taken) (start l .args .table) (laid-first (l .before)) (c .of .result) (c .of .ensures ∙ ap (λ (x : Sets). tableOf x (l .loop .totals) (l .loop .blocks)) (c .before .sets-of2 .ensures))
 
 add-at : tie.Need-add-at Inv-loop μ-loop
 add-at c = let y = c .if4 .left in omega (arith, bytes-fit (start (c .before .before)))
+
+next-block-requires : tie.Need-next-block-requires Inv-loop μ-loop
+next-block-requires c κs = search needs
 
 sub-judge : tie.Need-sub-judge Inv-loop μ-loop
 sub-judge c = search needs
@@ -495,29 +515,29 @@ judge-requires : tie.Need-judge-requires Inv-loop μ-loop
 judge-requires c κs = search needs
 
 to-requires : tie.Need-to-requires Inv-loop μ-loop
-to-requires c κs = search needs
+to-requires c κs = let b = c .before .before .before in let l = b .before .before in let y = b .if4 .left in omega (arith, l .loop .inv .going .fewer, bytes-fit (start l))
 
 is-done-requires : tie.Need-is-done-requires Inv-loop μ-loop
 is-done-requires c κs = search needs
 
 loop-less-4 : tie.Need-loop-less-4 Inv-loop μ-loop
-loop-less-4 c = let w = judged-few _ _ (says _ (c .before .before .before .before .judge .ensures)) in let b = c .before .before .before .before .before .before in let z = b .before .if1 .left in let y = b .if4 .left in omega arith
+loop-less-4 c = let w = judged-few _ _ (says _ (c .before .before .before .before .judge .ensures)) in let b = c .before .before .before .before .before .before .before in let z = b .before .if1 .left in let y = b .if4 .left in omega arith
 
 loop-again-4 : tie.Need-loop-again-4 Inv-loop μ-loop
 loop-again-4 c =
-    let b = c .before .before .before .before .before .before in
+    let b = c .before .before .before .before .before .before .before in
     let l = b .before .before in
-    kept-refused (l .loop .inv) (b .before .if1 .left) (b .if4 .left) (bytes-of l) _ (block-part (start l .args .bytes .now) (l .loop .at)) (c .before .before .before .before .judge .result) (says _ (c .before .before .before .before .judge .ensures)) _ (c .before .before .before .to .ensures)
-    (sym (c .before .is-done .ensures) ∙ not-true _ (c .if5 .taken)) _ (c .before .before .before .before .before .before .before .before .before .before .before .none .ensures)
+    kept-refused (l .loop .inv) (b .before .if1 .left) (b .if4 .left) (bytes-of l) _ (block-part (start l .args .bytes .now) (l .loop .at)) (c .before .before .before .before .judge .result) (says _ (c .before .before .before .before .judge .ensures)) _ (c .before .before .before .to .ensures) _ (c .before .before .before .before .before .before .next-block .ensures)
+    (sym (c .before .is-done .ensures) ∙ not-true _ (c .if5 .taken)) _ (c .before .before .before .before .before .before .before .before .before .before .before .before .none .ensures)
 
 loop-less-5 : tie.Need-loop-less-5 Inv-loop μ-loop
-loop-less-5 c = let w = judged-few _ _ (says _ (c .before .before .before .before .judge .ensures)) in let b = c .before .before .before .before .before .before in let z = b .before .if1 .left in let y = b .if4 .left in omega arith
+loop-less-5 c = let w = judged-few _ _ (says _ (c .before .before .before .before .judge .ensures)) in let b = c .before .before .before .before .before .before .before in let z = b .before .if1 .left in let y = b .if4 .left in omega arith
 
 loop-again-5 : tie.Need-loop-again-5 Inv-loop μ-loop
 loop-again-5 c =
-    let b = c .before .before .before .before .before .before in
+    let b = c .before .before .before .before .before .before .before in
     let l = b .before .before in
-    kept-taken (l .loop .inv) (b .before .if1 .left) (b .if4 .left) (bytes-of l) _ (block-part (start l .args .bytes .now) (l .loop .at)) (c .before .before .before .before .judge .result) (says _ (c .before .before .before .before .judge .ensures)) _ (c .before .before .before .to .ensures)
+    kept-taken (l .loop .inv) (b .before .if1 .left) (b .if4 .left) (bytes-of l) _ (block-part (start l .args .bytes .now) (l .loop .at)) (c .before .before .before .before .judge .result) (says _ (c .before .before .before .before .judge .ensures)) _ (c .before .before .before .to .ensures) _ (c .before .before .before .before .before .before .next-block .ensures)
     (sym (c .before .is-done .ensures) ∙ not-false _ (c .if5 .left))
 
 pub run-blocks-spec : {M : Type 1} → statement M
@@ -575,6 +595,11 @@ run-blocks-spec =
     element-copy-out-exchanged
     array-read-exchanged
     exchanged-requires
+    mul-confirmed-by
+    array-read-confirmed-by
+    confirmed-by-requires
+    mul-confirmed
+    array-write-confirmed
     mul-shown
     element-write-shown
     element-write-shown-2
@@ -622,6 +647,7 @@ run-blocks-spec =
     of-requires
     returns
     add-at
+    next-block-requires
     sub-judge
     part-judge-start
     part-judge-end

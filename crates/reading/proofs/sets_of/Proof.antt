@@ -16,7 +16,7 @@ gather-requires-2 c κs = let s = c .before .before .before .before .before .bef
 
 returns : tie.Need-returns
 unfolding setsOf
-returns c = let s = c .before .before .before .before .before .before .before .before in ap₂ (withLists (s .args .laid) (s .args .on)) (c .before .before .gather .ensures) (c .gather2 .ensures)
+returns c = let s = c .before .before .before .before .before .before .before .before in ap₂ (withLists (s .args .laid) (s .args .on) (s .args .confirmed)) (c .before .before .gather .ensures) (c .gather2 .ensures)
 
 pub sets-of-spec : {M : Type 1} → statement M
 sets-of-spec = tie.close (tie.spec gather-requires gather-requires-2 returns)

@@ -10,7 +10,7 @@ none-requires c κs = search needs
 
 returns : tie.Need-returns
 unfolding noReply
-returns c = λ i. record { outcome = Done; place = 0; full = 0; notes = c .none .ensures i }
+returns c = λ i. record { outcome = Done; place = 0; full = 0; refused = 0; notes = c .none .ensures i }
 
 pub none-spec : {M : Type 1} → statement M
 none-spec = tie.close (tie.spec none-requires returns)

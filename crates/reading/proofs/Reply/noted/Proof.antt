@@ -14,7 +14,7 @@ returns : tie.Need-returns
 unfolding replyWith
 returns c =
     let s = c .before .before .before .args .self in
-    λ i. record { outcome = s .outcome; place = s .place; full = c .before .with-start .ensures i; notes = c .noted .ensures i }
+    λ i. record { outcome = s .outcome; place = s .place; full = c .before .with-start .ensures i; refused = s .refused; notes = c .noted .ensures i }
 
 pub noted-spec : {M : Type 1} → statement M
 noted-spec = tie.close (tie.spec with-start-requires noted-requires returns)
