@@ -10,11 +10,13 @@ use borrow.Author.Tests.{leb-true, eq-eqb, ne-eqb}
 use Rattle.rules.specs.declared.Outcome.the-variants.{Done}
 use Rattle.rules.specs.Collecting.{Entries, Content, nothing, justSets, mostKeys}
 use Rattle.rules.proofs.Basics.{true-false}
-use Rattle.rules.proofs.TableRules.{table-rules}
+use Rattle.rules.proofs.TableRules.{table-rules, sets-meet}
 use Rattle.layout.proofs.Standing.{Bytes}
 use Rattle.layout.specs.Parse.{Read, readIf, readSets, parseSheet}
 use Rattle.layout.proofs.ParseLaws.{then-go, then-none, sheet-read, parsedOutcome, parsedLeft, parse-loads}
+use Rattle.sets.specs.declared.Sets.{Sets}
 use Rattle.sets.specs.Stored.{storeSets}
+use Rattle.totals.specs.declared.Totals.{Totals}
 use Rattle.totals.specs.Totals.{totalsOf}
 use Rattle.totals.specs.Kept.{keptUp}
 use Rattle.totals.proofs.Laws.{kept-sums}
@@ -83,12 +85,12 @@ module _ (bytes : List ℕ) (byte : Bytes bytes) where
           let m = sets-some _ s l t in
           loads-by bytes byte none r (then-go _ _ (number-some _ count place n) ∙ then-go _ _ (m .there) ∙ rw (ne-eqb (s .next) (length bytes) d)) e
 
-      pub load-made : s .ok ≡ true → s .next ≡ length bytes → (u : Table) → u ≡ tableOf (s .sets) (s .totals) → Loads bytes (record { outcome = Done; table = u })
+      pub load-made : s .ok ≡ true → s .next ≡ length bytes → (u : Table) → u ≡ tableOf (s .sets) (s .totals) 0 → Loads bytes (record { outcome = Done; table = u })
       unfolding parseSheet loadedAs totalsOf
       load-made t d u q =
           let m = sets-some _ s l t in
           let parsed : parseSheet bytes ≡ some (justSets (m .value)) =
           then-go _ _ (number-some _ count place n) ∙ then-go _ _ (m .there) ∙ rw (eq-eqb (s .next) (length bytes) d) in
-          let r = table-rules (m .value) .0 (sheet-read bytes _ byte parsed .rules) in
+          let r = table-rules (m .value) .0 (sets-meet _ (sheet-read bytes _ byte parsed .rules)) in
           loads-by bytes byte (some (justSets (m .value))) _ parsed
-          (λ i. record { outcome = Done; table = (q ∙ ap₂ tableOf (m .sets-are) (m .totals-are ∙ kept-sums (m .value) (r .entries) (r .short))) i })
+          (λ i. record { outcome = Done; table = (q ∙ ap₂ (λ (x : Sets) (n : Totals). tableOf x n 0) (m .sets-are) (m .totals-are ∙ kept-sums (m .value) (r .entries) (r .short))) i })

@@ -5,7 +5,7 @@ use mathlib.Core.Path.{_≡_, refl, sym, ap, _∙_}
 use mathlib.Core.Bool.{Bool, true, false}
 use mathlib.Core.List.{List, [], _∷_, _++_, map}
 use mathlib.Core.Option.{Option, none, some}
-use lib.ListN.{length, set, length-append, length-map}
+use lib.ListN.{length, set, length-append, length-map, replicate}
 use Rattle.rules.specs.Arrays.{padded}
 use Rattle.rules.specs.Field.{Pair}
 use Rattle.rules.specs.Collecting.{Entries, Shown, mostKeys, mostIds}
@@ -17,7 +17,7 @@ use Rattle.layout.proofs.ParseLaws.{then-go, then-none, head-read, count-rules,
 use Rattle.rules.proofs.Arrays.{padded-default, set-column}
 use Rattle.lists.specs.declared.IdList.{IdList}
 use Rattle.lists.specs.Stored.{emptyList, storeList, storeMaybe}
-use Rattle.sets.specs.Stored.{storeSets, keyIn, onIn, shownIn, draftIn}
+use Rattle.sets.specs.Stored.{storeSets, keyIn, onIn, confirmedIn, shownIn, draftIn}
 use Rattle.totals.specs.declared.Totals.{Totals}
 use Rattle.totals.specs.Totals.{noTotals}
 use Rattle.totals.specs.Kept.{withSet, keptUp}
@@ -129,6 +129,7 @@ pub record Filled (count : ℕ) (bytes : List ℕ) (at : ℕ) (draft : List IdLi
   pub many : length read ≡ i
   pub keys-are : keys ≡ padded mostKeys 0 (map keyIn read)
   pub on-are : on ≡ padded mostKeys false (map onIn read)
+  pub no-numbers : replicate mostKeys 0 ≡ padded mostKeys 0 (map confirmedIn read)
   pub shown-are : shown ≡ padded mostKeys emptyList (map shownIn read)
   pub draft-are : draft ≡ padded mostKeys emptyList (map draftIn read)
   pub totals-are : totals ≡ keptUp read
@@ -145,6 +146,7 @@ module _ (count : ℕ) (bytes : List ℕ) (at : ℕ) where
         many = refl;
         keys-are = refl;
         on-are = refl;
+        no-numbers = unfold padded in refl;
         shown-are = ap (λ (x : IdList). padded mostKeys x []) e;
         draft-are = ap (λ (x : IdList). padded mostKeys x []) e;
         totals-are = ne;
@@ -161,7 +163,7 @@ module _ (count : ℕ) (bytes : List ℕ) (at : ℕ) where
     pub sets-next : (r : ReadSet) → i < count → count ≤ mostKeys → r ≡ setAs (readSet last bytes place) → r .ok ≡ true
         → (n : Totals) → n ≡ withSet totals (r .list .len) (r .on)
         → Filled count bytes at draft (set keys i (r .key)) (set on i (r .on)) (set shown i (r .list)) n (r .key) (r .next) (i + 1)
-    unfolding onIn shownIn draftIn storeMaybe alone
+    unfolding onIn confirmedIn shownIn draftIn storeMaybe alone
     sets-next r h few e t n ne =
         let m = set-some _ r e t in
         let s = m .value in
@@ -170,6 +172,10 @@ module _ (count : ℕ) (bytes : List ℕ) (at : ℕ) where
           many = omega (arith, length-append (g .read) (alone s ∷ []), g .many);
           keys-are = set-column keyIn mostKeys i 0 (g .read) (alone s) (g .keys-are) (m .key-is) (g .many) (omega arith);
           on-are = set-column onIn mostKeys i false (g .read) (alone s) (g .on-are) (m .on-is) (g .many) (omega arith);
+          no-numbers =
+              g .no-numbers
+              ∙ sym (padded-default mostKeys 0 (map confirmedIn (g .read)) (omega (arith, length-map (g .read) confirmedIn, g .many)))
+              ∙ ap (padded mostKeys 0) (sym (map-append confirmedIn (g .read) (alone s ∷ [])));
           shown-are = set-column shownIn mostKeys i emptyList (g .read) (alone s) (g .shown-are) (m .list-is) (g .many) (omega arith);
           draft-are =
               g .draft-are
@@ -182,7 +188,7 @@ module _ (count : ℕ) (bytes : List ℕ) (at : ℕ) where
         }
 
     pub sets-made : i ≤ count → count ≤ i
-        → _≡_ {A = ReadSets} (record { ok = true; sets = record { count = count; keys = keys; on = on; shown = shown; draft = draft }; totals = totals; next = place })
+        → _≡_ {A = ReadSets} (record { ok = true; sets = record { count = count; keys = keys; on = on; confirmed = replicate mostKeys 0; shown = shown; draft = draft }; totals = totals; next = place })
         (setsAs (readSets count 0 [] bytes at))
     unfolding setsAs storeSets
     sets-made a b =
@@ -190,7 +196,7 @@ module _ (count : ℕ) (bytes : List ℕ) (at : ℕ) where
         (λ j.
         record {
           ok = true;
-          sets = record { count = l j; keys = g .keys-are j; on = g .on-are j; shown = g .shown-are j; draft = g .draft-are j };
+          sets = record { count = l j; keys = g .keys-are j; on = g .on-are j; confirmed = g .no-numbers j; shown = g .shown-are j; draft = g .draft-are j };
           totals = g .totals-are j;
           next = place;
         })

@@ -12,7 +12,7 @@ use Rattle.rules.specs.Field.{Pair, pair}
 use Rattle.rules.specs.Collecting.{Content, Shown, meets, shownSets, mostKeys, mostIds}
 use Rattle.layout.specs.Sheet.{sheetNumber, sheetPairs, sheetSet, sheetSets, sheet}
 use Rattle.layout.proofs.Laws.{shown-entries, sets-most}
-use Rattle.rules.proofs.TableRules.{table-rules, shown-few}
+use Rattle.rules.proofs.TableRules.{sets-meet, table-rules, shown-few}
 use Rattle.lists.specs.declared.IdList.{IdList}
 use Rattle.lists.specs.Stored.{pairsIn}
 use Rattle.lists.proofs.Pairs.{length-pairs-in, drop-pairs, drop-pairs-end}
@@ -111,7 +111,7 @@ module _ (t : Sets) (c : Content) (m : meets c ≡ true) (e : t ≡ storeSets (c
   unfolding sheet
   sheet-of =
       ap (λ (n : ℕ). sheetNumber n ++ sheetSets (setsIn t)) count-is
-      ∙ ap (λ (ss : List Shown). sheetNumber (length ss) ++ sheetSets ss) (ap setsIn e ∙ sets-stored (c .sets) m)
+      ∙ ap (λ (ss : List Shown). sheetNumber (length ss) ++ sheetSets ss) (ap setsIn e ∙ sets-stored (c .sets) (sets-meet c m))
 
   pub size-sheet : {n size : ℕ} → n ≡ length (sheetNumber count) → size ≡ length (sheetSets (setsIn t)) → n + size ≡ length (sheet c)
   size-sheet a b = omega (arith, length-append (sheetNumber count) (sheetSets (setsIn t)), ap length sheet-of)

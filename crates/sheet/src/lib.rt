@@ -566,6 +566,7 @@ fn read_sets(count: usize, bytes: &[u8], at: usize) -> ReadSets
         count,
         keys,
         on,
+        confirmed: [0u32; Sets::KEYS],
         shown,
         draft: [none; Sets::KEYS],
     };
@@ -593,7 +594,7 @@ fn not_a_sheet() -> Loaded
     }
 }
 
-// A table from a sheet: its sets, and no open list. Where the bytes are not a sheet, outcome 10 and the
+// A table from a sheet: its sets, no open list, no block counted and no number. Where the bytes are not a sheet, outcome 10 and the
 // empty table.
 pub fn load_sheet(bytes: &[u8]) -> Loaded
     ensures { λ r. ⌜ Loads (now (bytes .entry)) r ⌝ }
@@ -612,6 +613,6 @@ pub fn load_sheet(bytes: &[u8]) -> Loaded
     let totals = read.totals;
     Loaded {
         outcome: Outcome::Done,
-        table: Table::of(sets, totals),
+        table: Table::of(sets, totals, 0),
     }
 }
