@@ -14,7 +14,7 @@ use Rattle.rules.specs.Collecting.{IdSet, Content, meets, mostKeys}
 use Rattle.pieces.specs.Air.{Piece, cut, deadLink, pieces, figBytes, blockOf, blocksOf, setBlocks, allBlocks, air}
 use Rattle.rules.proofs.Basics.{cases-bool}
 use Rattle.pieces.proofs.ReadBack.{blocks-length}
-use Rattle.rules.proofs.TableRules.{table-rules}
+use Rattle.rules.proofs.TableRules.{table-rules, sets-meet}
 use Rattle.lists.specs.declared.IdList.{IdList}
 use Rattle.lists.specs.Stored.{paired, pairsIn, Holds}
 use Rattle.lists.proofs.StoredLaws.{holds-facts}
@@ -92,8 +92,8 @@ blocks-all t n =
 pub air-of : (t : Sets) (c : Content) → meets c ≡ true → t ≡ storeSets (c .sets) → allBlocks (setsFrom t 0 (t .count)) ≡ air c
 unfolding setsIn storeSets air
 air-of t c m e =
-    let k : t .count ≡ min (t .count) mostKeys = omega (arith, ap (λ (x : Sets). x .count) e, table-rules (c .sets) .0 m .short) in
-    ap (λ (n : ℕ). allBlocks (setsFrom t 0 n)) k ∙ ap allBlocks (ap setsIn e ∙ sets-stored (c .sets) m)
+    let k : t .count ≡ min (t .count) mostKeys = omega (arith, ap (λ (x : Sets). x .count) e, table-rules (c .sets) .0 (sets-meet c m) .short) in
+    ap (λ (n : ℕ). allBlocks (setsFrom t 0 n)) k ∙ ap allBlocks (ap setsIn e ∙ sets-stored (c .sets) (sets-meet c m))
 
 -- ---- the answer
 

@@ -9,10 +9,10 @@ use mathlib.Core.List.{List, [], _++_}
 use lib.ListN.{length, take, drop, length-append, length-drop}
 use lib.Seq.{drop-drop}
 use Rattle.rules.specs.Block.{bit}
-use Rattle.rules.specs.Outcomes.{verdict}
+use Rattle.rules.specs.Outcomes.{verdict, isRefused, refusedOf, refusals}
 use Rattle.out.proofs.Runs.{Going, going-start, going-on, going-end}
 use Rattle.report.specs.declared.Told.{Told}
-use Rattle.report.specs.Report.{blockLine, linesOf, isRefused, refusedOf, countsText, report}
+use Rattle.report.specs.Report.{blockLine, linesOf, countsText, report}
 use Rattle.report.specs.Telling.{Tells}
 use Rattle.report.proofs.Lines.{lines-append, refused-append, refused-few}
 use Rattle.input.specs.declared.Received.{Received}
@@ -110,7 +110,7 @@ chunk-follows before chunk text r even e =
 -- at the end: the counts of all that was read
 pub counts-end : (r : Checked) (text : List ℕ) → Checking r → (r .received .failed ≡ false) × (r .written ≡ true)
     → text ≡ countsText (r .received .size / 32) (r .refused) (r .received .full) (r .received .rest) → Ends r text
-unfolding report
+unfolding report refusals
 counts-end r text c s e =
     let a = c .read in
     record { read = c; to-its-end = s .0; lines-written = s .1; whole = ap (λ (x : List ℕ). linesOf (length (a .bytes) / 32) 0 (a .bytes) ++ x) (e ∙ rw (a .size, c .refused, a .full, a .rest)) }

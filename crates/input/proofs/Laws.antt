@@ -14,13 +14,14 @@ use Rattle.io.specs.Counts.{Counts}
 use Rattle.rules.specs.declared.Note.{Note}
 use Rattle.rules.specs.Block.{checkHolds}
 use Rattle.rules.specs.Collecting.{Content, nothing}
-use Rattle.rules.specs.Outcomes.{readBlock, readBlocks, isFull, withoutRoom, roomlessBlocks, readRecording, leftOver, roomless}
+use Rattle.rules.specs.Outcomes.{readBlock, readBlocks, isFull, withoutRoom, roomlessBlocks, readRecording, leftOver, refusedOf, refusals, roomless}
 use Rattle.rules.proofs.Basics.{bit-small}
-use Rattle.rules.proofs.TableRules.{meets-nil}
+use Rattle.rules.proofs.TableRules.{nothing-meets}
 use Rattle.rules.proofs.LinkageLaws.{notes-few, recording-keeps, recording-append, left-over-append}
 use Rattle.table.specs.declared.Table.{Table}
 use Rattle.table.specs.Stored.{storeTable, Given}
 use Rattle.table.proofs.GivenLaws.{given-content}
+use Rattle.report.proofs.Lines.{refused-append, refused-few}
 use Rattle.reading.specs.declared.Recorded.{Recorded}
 use Rattle.reading.specs.Runs.{recordedAs, unrecorded}
 use Rattle.input.specs.declared.Received.{Received}
@@ -146,15 +147,22 @@ roomless-few t bytes = omega (arith, roomless-blocks-few (length bytes / 32) t b
 
 -- nothing read yet
 pub reading-nothing : (t : Table) → t ≡ storeTable nothing
-    → Reading (record { table = t; rest = 0; full = 0; size = 0; good = false; failed = false })
-unfolding readRecording readBlocks leftOver roomless roomlessBlocks goodIn someHolds
-reading-nothing t e = record { bytes = []; each = λ i. omega arith; size = refl; table = e; rest = refl; full = refl; good = refl }
+    → Reading (record { table = t; rest = 0; full = 0; refused = 0; size = 0; good = false; failed = false })
+unfolding readRecording readBlocks leftOver roomless roomlessBlocks refusals refusedOf goodIn someHolds
+reading-nothing t e = record { bytes = []; each = λ i. omega arith; size = refl; table = e; rest = refl; full = refl; refused = refl; good = refl }
+
+-- the refused blocks of bytes after whole blocks
+refusals-append : (a b : List ℕ) → length a % 32 ≡ 0 → refusals (a ++ b) ≡ refusals a + refusals b
+unfolding refusals
+refusals-append a b h =
+    let n : length (a ++ b) / 32 ≡ length a / 32 + length b / 32 = omega (arith, length-append a b) in
+    ap (λ (k : ℕ). refusedOf k (a ++ b)) n ∙ refused-append (length a / 32) (length b / 32) a b (omega arith)
 
 -- a chunk read after bytes
 module _ (before : Received) (chunk : List ℕ) (read : Recorded)
     (given : Given (before .table) (λ c. read ≡ recordedAs c chunk) (read ≡ unrecorded (before .table))) where
   chunk-read : (r : Reading before) → read ≡ recordedAs (readRecording nothing (r .bytes)) chunk
-  chunk-read r = given-content (readRecording nothing (r .bytes)) (recording-keeps nothing (r .bytes) (r .each) meets-nil) (r .table) given
+  chunk-read r = given-content (readRecording nothing (r .bytes)) (recording-keeps nothing (r .bytes) (r .each) nothing-meets) (r .table) given
 
   -- no more starts without room than there are bytes
   pub full-within : Reading before → before .full + read .full ≤ before .size + length chunk
@@ -163,10 +171,17 @@ module _ (before : Received) (chunk : List ℕ) (read : Recorded)
       let now = ap (λ (x : Recorded). x .full) (chunk-read r) in
       omega (arith, r .size, r .full, now, roomless-few nothing (r .bytes), roomless-few (readRecording nothing (r .bytes)) chunk)
 
+  -- nor more refused blocks
+  pub refused-within : Reading before → before .refused + read .refused ≤ before .size + length chunk
+  unfolding recordedAs refusals
+  refused-within r =
+      let now = ap (λ (x : Recorded). x .refused) (chunk-read r) in
+      omega (arith, r .size, r .refused, now, refused-few (length (r .bytes) / 32) (r .bytes), refused-few (length chunk / 32) chunk)
+
   -- whole blocks and then the chunk
   pub reading-chunk : (good failed : Bool) → before .size % 32 ≡ 0 → ((i : ℕ) → getD chunk i 0 < 256) → good ≡ (before .good || goodIn chunk)
       → ReadsMore before chunk
-      (record { table = read .table; rest = read .rest; full = before .full + read .full; size = before .size + length chunk; good = good; failed = failed })
+      (record { table = read .table; rest = read .rest; full = before .full + read .full; refused = before .refused + read .refused; size = before .size + length chunk; good = good; failed = failed })
   unfolding ReadsMore recordedAs
   reading-chunk good failed even each g r =
       let a = r .bytes in
@@ -179,6 +194,9 @@ module _ (before : Received) (chunk : List ℕ) (read : Recorded)
           table = ap (λ (x : Recorded). x .table) left ∙ ap (λ (c : Content). storeTable c) (sym (recording-append nothing a chunk whole));
           rest = ap (λ (x : Recorded). x .rest) left ∙ sym (left-over-append a chunk whole);
           full = ap₂ _+_ (r .full) (ap (λ (x : Recorded). x .full) left) ∙ sym (roomless-append nothing a chunk whole);
+          refused =
+              ap₂ _+_ (r .refused) (ap (λ (x : Recorded). x .refused) left)
+              ∙ sym (refusals-append a chunk whole);
           good = g ∙ ap (λ (b : Bool). b || goodIn chunk) (r .good) ∙ sym (good-append a chunk whole);
         },
         refl,
@@ -186,10 +204,10 @@ module _ (before : Received) (chunk : List ℕ) (read : Recorded)
 
 -- that the reading failed after these bytes changes nothing of them
 abbrev pub withFailed : Received → Bool → Received
-withFailed r failed = record { table = r .table; rest = r .rest; full = r .full; size = r .size; good = r .good; failed = failed }
+withFailed r failed = record { table = r .table; rest = r .rest; full = r .full; refused = r .refused; size = r .size; good = r .good; failed = failed }
 
 unfoldable pub reading-failed : (r : Received) (failed : Bool) → Reading r → Reading (withFailed r failed)
-reading-failed r failed h = record { bytes = h .bytes; each = h .each; size = h .size; table = h .table; rest = h .rest; full = h .full; good = h .good }
+reading-failed r failed h = record { bytes = h .bytes; each = h .each; size = h .size; table = h .table; rest = h .rest; full = h .full; refused = h .refused; good = h .good }
 
 -- a larger bound
 pub within-more : (t : Turn) (m n : ℕ) → ReadOn t m → m ≤ n → ReadOn t n

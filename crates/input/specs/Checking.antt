@@ -4,7 +4,8 @@ use mathlib.Core.Path.{_≡_}
 use mathlib.Core.Bool.{true, false}
 use mathlib.Core.List.{List, _++_}
 use lib.ListN.{length}
-use Rattle.report.specs.Report.{linesOf, refusedOf, report}
+use Rattle.rules.specs.Outcomes.{refusedOf}
+use Rattle.report.specs.Report.{linesOf, report}
 use Rattle.input.specs.declared.Received.{Received}
 use Rattle.input.specs.declared.checking.Checked.{Checked}
 use Rattle.input.specs.declared.checking.CheckTurn.{CheckTurn}

@@ -6,7 +6,7 @@ use mathlib.Core.List.{List, _++_}
 use lib.ListN.{length, getD, take, drop}
 use Rattle.rules.specs.Block.{checkHolds}
 use Rattle.rules.specs.Collecting.{nothing}
-use Rattle.rules.specs.Outcomes.{readRecording, leftOver, roomless}
+use Rattle.rules.specs.Outcomes.{readRecording, leftOver, refusals, roomless}
 use Rattle.table.specs.Stored.{storeTable}
 use Rattle.sheet.specs.Loading.{Loads}
 use Rattle.input.specs.declared.Received.{Received}
@@ -23,7 +23,7 @@ unfoldable pub goodIn : List ℕ → Bool
 goodIn bytes = someHolds (length bytes / 32) bytes
 
 -- as a recording, into a table that holds nothing: so many bytes, the table that they leave, the bytes after the last whole
--- block, the starts that found no room, and whether the check of some block holds
+-- block, the starts that found no room, the refused blocks, and whether the check of some block holds
 pub record Reading (r : Received) : Type 0 where
   pub bytes : List ℕ
   pub each : (i : ℕ) → getD bytes i 0 < 256
@@ -31,6 +31,7 @@ pub record Reading (r : Received) : Type 0 where
   pub table : r .table ≡ storeTable (readRecording nothing bytes)
   pub rest : r .rest ≡ leftOver bytes
   pub full : r .full ≡ roomless nothing bytes
+  pub refused : r .refused ≡ refusals bytes
   pub good : r .good ≡ goodIn bytes
 
 -- one chunk more: of whatever bytes the state before was the reading, this is the reading of those with the chunk behind them

@@ -79,12 +79,13 @@ pub fn some_holds(bytes: &[u8]) -> bool
 }
 
 // What a recording left: the table, which meets the rules, the bytes after its last whole block, how many of its starts found no
-// room, how many bytes there were, whether the check of some block held, and whether a read failed: then this is of a part of the
+// room, how many of its blocks were refused, how many bytes there were, whether the check of some block held, and whether a read failed: then this is of a part of the
 // recording only.
 pub struct Received {
     pub table: Table,
     pub rest: usize,
     pub full: usize,
+    pub refused: usize,
     pub size: usize,
     pub good: bool,
     pub failed: bool,
@@ -105,6 +106,7 @@ pub(crate) fn nothing() -> Turn
         table,
         rest: 0,
         full: 0,
+        refused: 0,
         size: 0,
         good: false,
         failed: false,
@@ -128,11 +130,13 @@ pub(crate) fn with_chunk(before: Received, chunk: &[u8], failed: bool) -> Receiv
     let left = read.table;
     let size = before.size + chunk.len();
     let full = before.full + read.full;
+    let refused = before.refused + read.refused;
     let good = before.good || some_holds(chunk);
     Received {
         table: left,
         rest: read.rest,
         full,
+        refused,
         size,
         good,
         failed,

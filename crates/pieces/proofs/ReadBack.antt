@@ -14,11 +14,14 @@ use borrow.Author.Tests.{ltb-true, lt-ltb}
 use Rattle.rules.specs.Block.{bit}
 use Rattle.rules.specs.Field.{Field, keyOf, pairsOf, namedBy, hasList, isContinuation}
 use Rattle.rules.specs.Family.{start, continuation, Said, step, steps}
-use Rattle.rules.specs.Collecting.{linkage, joinNames, IdSet, Held, Entries, Content, nothing, justSets, brings, actOf, said, keyWidth, oeOf, firstOf, setMeets, ifThere, entryMeets, ascends, entriesMeet, meets, Shown, showing, shownSets, mostKeys}
-use Rattle.rules.specs.Outcomes.{verdict, taken, answerTo, readBlock, readBlocks, readRecording, leftOver}
+use Rattle.rules.specs.Collecting.{linkage, joinNames, IdSet, Held, Entries, Content, nothing, brings, actOf, said, keyWidth, oeOf, firstOf, setMeets, ifThere, entryMeets, ascends, entriesMeet, meets, Shown, showing, shownSets, mostKeys}
+use Rattle.rules.specs.Outcomes.{verdict, taken, readRecording, leftOver}
+use Rattle.rules.specs.Numbers.{bare, plainAfter, plainBlocks, plainRecording}
 use Rattle.pieces.specs.Air.{Piece, pieceMost, pieces, figBytes, blockOf, blocksOf, setBlocks, allBlocks, air}
 use Rattle.rules.proofs.Basics.{cases-bool, cases-option, and-left, and-right, Every, every-append, every-imp}
-use Rattle.rules.proofs.TableRules.{kind-small, names-small, names-none, lawful, all-differ, SetRules, set-rules, entry-rules, key-meets, table-rules, shown-few, join-assoc, join-to-zero}
+use Rattle.rules.proofs.TableRules.{kind-small, names-small, names-none, lawful, all-differ, SetRules, set-rules, entry-rules, key-meets, table-rules, sets-meet, shown-few, join-assoc, join-to-zero}
+use Rattle.rules.proofs.LinkageLaws.{recording-append}
+use Rattle.rules.proofs.Numbers.{bare-shown, plain-recording}
 use Rattle.rules.proofs.Sent.{KeysBefore, withPiece, withPieces, Continue, Sends, sent-new, sent-again}
 use Rattle.pieces.proofs.Cutting.{Below, piecePairs, flat, flat-pieces, IsMore, Shape, pieces-shape, PieceMeets, pieces-meet, set-count, piecesNamed, pieces-named}
 use Rattle.pieces.proofs.BlockBack.{fieldOf, block-length, verdict-back, piece-bytes}
@@ -31,7 +34,7 @@ bringsOf k c = record { items = piecePairs k c; named = namedBy (c .qualifier) }
 
 -- a piece of a set with this key and state, as a field
 unfoldable pub saidOf : ℕ → Bool → Piece → Said linkage
-saidOf k on c = record { key = k; state = on; act = cond (c .more) (continuation (bringsOf k c)) (start (bringsOf k c)); stamp = tt }
+saidOf k on c = record { key = k; state = on; act = cond (c .more) (continuation (bringsOf k c)) (start (bringsOf k c)); stamp = 0 }
 
 -- a number and its half
 halves : (k : ℕ) → (k / 16384 ≡ 2 * (k / 32768) + k / 16384 % 2) × (k / 8192 ≡ 2 * (k / 16384) + k / 8192 % 2) × (k / 4096 ≡ 2 * (k / 8192) + k / 4096 % 2)
@@ -61,15 +64,15 @@ act-back : (k : ℕ) (on : Bool) (c : Piece) → actOf (fieldOf k on c) ≡ said
 unfolding actOf fieldOf saidOf hasList isContinuation brings bringsOf pairsOf piecePairs firstOf bit
 act-back k on c = cases-bool (c .more) (λ e. rw e) (λ e. rw e)
 
-pub said-back : (k : ℕ) (on : Bool) (c : Piece) → k < 65536 → said (fieldOf k on c) ≡ saidOf k on c
+pub said-back : (k : ℕ) (on : Bool) (c : Piece) → k < 65536 → said 0 (fieldOf k on c) ≡ saidOf k on c
 unfolding said saidOf fieldOf
-said-back k on c h = λ i. record { key = key-back k on c h i; state = state-back on i; act = act-back k on c i; stamp = tt }
+said-back k on c h = λ i. record { key = key-back k on c h i; state = state-back on i; act = act-back k on c i; stamp = 0 }
 
 -- ---- a set's pieces as fields
 
 -- what is held of a key
 unfoldable pub entry : ℕ → Bool → Option IdSet → Option IdSet → Held
-entry k on sh dr = record { key = k; state = on; shown = sh; draft = dr; stamp = tt }
+entry k on sh dr = record { key = k; state = on; shown = sh; draft = dr; stamp = 0 }
 
 -- every key of a content is below a key
 abbrev pub KeysBelow : ℕ → Entries → Type 0
@@ -146,29 +149,29 @@ module _ (k : ℕ) (l : IdSet) (parts : SetRules k l) where
       -- a set of a key with an open list: that list is shown, and the set is the open list
       steps-again : (post : Entries) (b : Bool) (sh : Option IdSet) (d : IdSet)
           → steps linkage (pre ++ entry k b sh (some d) ∷ post) (map (saidOf k on) (pieces k l)) .0 ≡ pre ++ entry k on (some d) (some l) ∷ post
-      unfolding entry
+      unfolding entry sends saidOf
       steps-again post b sh d =
           sent-again linkage lawful k on pre (keys-before k pre low) l (parts .short) (all-differ (l .items) .0 (parts .differ)) (map (saidOf k on) (pieces k l))
-          sends post b sh d tt
+          sends post b sh d 0
 
 -- ---- a set's blocks
 
+-- a recording read into sets, apart from their numbers
+abbrev readInto : Entries → List ℕ → Entries
+readInto t bytes = plainRecording t bytes
+
 -- a block in front of a recording
-read-block : (t : Content) (b rest : List ℕ) → length b ≡ 32 → readRecording t (b ++ rest) ≡ readRecording (readBlock t b .left) rest
-unfolding readRecording readBlocks
+read-block : (t : Entries) (b rest : List ℕ) → length b ≡ 32 → readInto t (b ++ rest) ≡ readInto (plainAfter t (verdict b)) rest
+unfolding plainRecording plainBlocks
 read-block t b rest h =
     let n : length (b ++ rest) / 32 ≡ suc (length rest / 32) = omega (arith, length-append b rest) in
-    ap (λ (x : ℕ). readBlocks x t (b ++ rest)) n
-    ∙ ap (λ (x : List ℕ). readBlocks (length rest / 32) (readBlock t x .left) (drop 32 (b ++ rest))) (take-at b rest 32 h)
-    ∙ ap (λ (x : List ℕ). readBlocks (length rest / 32) (readBlock t b .left) x) (drop-at b rest 32 h)
-
--- a recording read into sets alone
-abbrev readInto : Entries → List ℕ → Content
-readInto t bytes = readRecording (justSets t) bytes
+    ap (λ (x : ℕ). plainBlocks x t (b ++ rest)) n
+    ∙ ap (λ (x : List ℕ). plainBlocks (length rest / 32) (plainAfter t (verdict x)) (drop 32 (b ++ rest))) (take-at b rest 32 h)
+    ∙ ap (λ (x : List ℕ). plainBlocks (length rest / 32) (plainAfter t (verdict b)) x) (drop-at b rest 32 h)
 
 -- a taken block with one field
-read-taken : (t : Entries) (b : List ℕ) (f : Field) → verdict b ≡ taken (f ∷ []) → readBlock (justSets t) b .left ≡ justSets (step linkage t (said f) .0)
-unfolding readBlock answerTo steps
+read-taken : (t : Entries) (b : List ℕ) (f : Field) → verdict b ≡ taken (f ∷ []) → plainAfter t (verdict b) ≡ step linkage t (said 0 f) .0
+unfolding plainAfter steps
 read-taken t b f e = rw e
 
 -- every block of a recording is taken, with one field
@@ -199,9 +202,9 @@ module _ (k named : ℕ) (on : Bool) (small : k < 65536) (lsn : k % 4096 ≡ 0 �
   read-pieces t (c ∷ cs) rest m =
       let b : List ℕ = blockOf (figBytes k on c) in
       ap (λ (x : List ℕ). readInto t x) (append-assoc b (blocksOf k on cs) rest)
-      ∙ read-block (justSets t) b (blocksOf k on cs ++ rest) (block-length (figBytes k on c))
-      ∙ ap (λ (x : Content). readRecording x (blocksOf k on cs ++ rest))
-      (read-taken t b (fieldOf k on c) (verdict-back k named c lsn (m .0) none' on) ∙ ap (λ (f : Said linkage). justSets (step linkage t f .0)) (said-back k on c small))
+      ∙ read-block t b (blocksOf k on cs ++ rest) (block-length (figBytes k on c))
+      ∙ ap (λ (x : Entries). readInto x (blocksOf k on cs ++ rest))
+      (read-taken t b (fieldOf k on c) (verdict-back k named c lsn (m .0) none' on) ∙ ap (λ (f : Said linkage). step linkage t f .0) (said-back k on c small))
       ∙ read-pieces (step linkage t (saidOf k on c) .0) cs rest (m .1)
 
   -- every block of the pieces is taken
@@ -370,15 +373,15 @@ content-order last (e ∷ es) a m =
 
 -- what the table rules say of a content's shown sets
 pub shown-order : (t : Content) → meets t ≡ true → InOrder 0 (shownSets (t .sets))
-shown-order t h = let r = table-rules (t .sets) .0 h in content-order 0 (t .sets) (r .ascend) (r .entries)
+shown-order t h = let r = table-rules (t .sets) .0 (sets-meet t h) in content-order 0 (t .sets) (r .ascend) (r .entries)
 
 shown-most : (t : Content) → meets t ≡ true → length (shownSets (t .sets)) ≤ mostKeys
-shown-most t h = omega (arith, shown-few (t .sets), table-rules (t .sets) .0 h .short)
+shown-most t h = omega (arith, shown-few (t .sets), table-rules (t .sets) .0 (sets-meet t h) .short)
 
 -- ---- the theorems
 
--- the output in front of a recording, read into the empty content: each shown set is the open list of its key
-air-front : (t : Content) (rest : List ℕ) → meets t ≡ true → readRecording nothing (air t ++ rest) ≡ readInto (map opened (shownSets (t .sets))) rest
+-- the output in front of a recording, read into no sets: each shown set is the open list of its key
+air-front : (t : Content) (rest : List ℕ) → meets t ≡ true → readInto [] (air t ++ rest) ≡ readInto (map opened (shownSets (t .sets))) rest
 unfolding air
 air-front t rest h = first-pass [] 0 (shownSets (t .sets)) rest (shown-order t h) tt (omega (arith, shown-most t h))
 
@@ -388,31 +391,33 @@ unfolding air
 air-next t rest h = second-pass [] 0 (shownSets (t .sets)) rest (shown-order t h) tt
 
 -- a recording with nothing after it
-read-alone : (t : Content) (bytes : List ℕ) → readRecording t bytes ≡ readRecording t (bytes ++ [])
-read-alone t bytes = ap (λ (x : List ℕ). readRecording t x) (sym (append-nil bytes))
+read-alone : (t : Entries) (bytes : List ℕ) → readInto t bytes ≡ readInto t (bytes ++ [])
+read-alone t bytes = ap (readInto t) (sym (append-nil bytes))
 
-read-nothing : (t : Content) → readRecording t [] ≡ t
-unfolding readRecording readBlocks
+read-nothing : (t : Entries) → readInto t [] ≡ t
+unfolding plainRecording plainBlocks
 read-nothing t = refl
 
--- what the output leaves when it is read into the empty content: every shown set as an open list, and nothing shown
-pub air-once : (t : Content) → meets t ≡ true → readRecording nothing (air t) ≡ justSets (map opened (shownSets (t .sets)))
-air-once t h = read-alone nothing (air t) ∙ air-front t [] h ∙ read-nothing (justSets (map opened (shownSets (t .sets))))
+-- what the output leaves when it is read into the empty content, apart from numbers: every shown set as an open list, and nothing shown
+pub air-once : (t : Content) → meets t ≡ true → map (bare linkage) (readRecording nothing (air t) .sets) ≡ map opened (shownSets (t .sets))
+air-once t h = plain-recording nothing (air t) ∙ read-alone [] (air t) ∙ air-front t [] h ∙ read-nothing (map opened (shownSets (t .sets)))
 
 -- what it leaves when it is read twice: every shown set shown, with its on or off, and once more as an open list
-pub air-twice : (t : Content) → meets t ≡ true → readRecording (readRecording nothing (air t)) (air t) ≡ justSets (map again (shownSets (t .sets)))
+pub air-twice : (t : Content) → meets t ≡ true
+    → map (bare linkage) (readRecording (readRecording nothing (air t)) (air t) .sets) ≡ map again (shownSets (t .sets))
 air-twice t h =
-    ap (λ (x : Content). readRecording x (air t)) (air-once t h)
-    ∙ read-alone (justSets (map opened (shownSets (t .sets)))) (air t) ∙ air-next t [] h ∙ read-nothing (justSets (map again (shownSets (t .sets))))
+    plain-recording (readRecording nothing (air t)) (air t)
+    ∙ ap (λ (x : Entries). readInto x (air t)) (air-once t h)
+    ∙ read-alone (map opened (shownSets (t .sets))) (air t) ∙ air-next t [] h ∙ read-nothing (map again (shownSets (t .sets)))
 
 -- the whole output read twice into the empty content shows the same sets
 pub air-shows : (t : Content) → meets t ≡ true → shownSets (readRecording (readRecording nothing (air t)) (air t) .sets) ≡ shownSets (t .sets)
-air-shows t h = ap (λ (x : Content). shownSets (x .sets)) (air-twice t h) ∙ shown-again (shownSets (t .sets))
+air-shows t h = sym (bare-shown _) ∙ ap shownSets (air-twice t h) ∙ shown-again (shownSets (t .sets))
 
--- and so does a recording of it twice over
+-- and so does a recording of it twice over: its blocks are whole
 pub air-shows-twice-over : (t : Content) → meets t ≡ true → shownSets (readRecording nothing (air t ++ air t) .sets) ≡ shownSets (t .sets)
 air-shows-twice-over t h =
-    ap (λ (x : Content). shownSets (x .sets)) (air-front t (air t) h ∙ ap (λ (x : Content). readRecording x (air t)) (sym (air-once t h))) ∙ air-shows t h
+    ap (λ (x : Content). shownSets (x .sets)) (recording-append nothing (air t) (air t) (unfold air in all-blocks-whole (shownSets (t .sets)))) ∙ air-shows t h
 
 -- every block of it is taken, with one field
 pub air-taken : (t : Content) → meets t ≡ true → EachTaken (air t)

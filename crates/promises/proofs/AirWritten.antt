@@ -10,7 +10,7 @@ use lib.ListN.{length, getD, take}
 use Rattle.rules.specs.Collecting.{Content, nothing, meets, shownSets}
 use Rattle.rules.specs.Outcomes.{numberOf, readRecording, leftOver}
 use Rattle.rules.proofs.Basics.{every-at}
-use Rattle.rules.proofs.TableRules.{meets-nil}
+use Rattle.rules.proofs.TableRules.{nothing-meets}
 use Rattle.rules.proofs.LinkageLaws.{recording-keeps}
 use Rattle.pieces.specs.Air.{air}
 use Rattle.pieces.proofs.ReadBack.{air-shows, air-shows-twice-over, air-whole, air-length, air-bytes}
@@ -58,7 +58,7 @@ module _ (t : Table) (old : List ℕ) (r : Written) (new : List ℕ) where
         let said = take (r .size) new in
         let byte : (i : ℕ) → getD said i 0 < 256 = rw bytes (every-at (λ b. b < 256) 0 (omega arith) (air c) (air-bytes c m)) in
         let one = readRecording nothing said in
-        let kept = recording-keeps nothing said byte meets-nil in
-        let first = ap (λ (z : Recorded). z .table) (given-content nothing meets-nil refl x) in
+        let kept = recording-keeps nothing said byte nothing-meets in
+        let first = ap (λ (z : Recorded). z .table) (given-content nothing nothing-meets refl x) in
         let second = ap (λ (z : Recorded). z .table) (given-content one kept first y) in
         (readRecording one said, (recording-keeps one said byte kept, second), write-air-shows)

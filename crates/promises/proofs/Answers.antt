@@ -15,13 +15,13 @@ use Rattle.rules.specs.declared.Outcome.{Outcome}
 use Rattle.rules.specs.declared.Outcome.the-variants.{Done, NotHeld, ShortBuffer, WrongTable, NotShown}
 use Rattle.rules.specs.Field.{Field}
 use Rattle.rules.specs.Family.{find, forget, dropOpen}
-use Rattle.rules.specs.Collecting.{linkage, IdSet, Held, Entries, Content, justSets, withSets, meets, mostKeys}
+use Rattle.rules.specs.Collecting.{linkage, IdSet, Held, Entries, Content, withSets, nextBlock, afterBlock, meets, mostKeys}
 use Rattle.rules.specs.Outcomes as Outcomes
-use Rattle.rules.specs.Outcomes.{numberOf, taken, verdict, leftOver, roomless, heldOr, forgetOutcome, forgotten, copySet, copyHeld, copyOut, notCopied}
+use Rattle.rules.specs.Outcomes.{numberOf, taken, verdict, leftOver, refusals, roomless, heldOr, forgetOutcome, forgotten, copySet, copyHeld, copyOut, notCopied}
 use Rattle.rules.proofs.Basics.{cases-bool, cases-option, none-some, or-cases, or-false-left, or-false-right}
 use Rattle.rules.proofs.LinkageLaws.{cases-verdict, answer-taken, answer-refused, no-block, notes-fields, Refused, Refusal, full-refusal, refused-full, refused-numbers}
 use Rattle.rules.proofs.FirstFault.{FirstFault, ofCheck, ofFig, ofField, ofValue, ofStart, first-fault-in-class}
-use Rattle.rules.proofs.TableRules.{table-rules}
+use Rattle.rules.proofs.TableRules.{table-rules, sets-meet}
 use Rattle.lists.specs.Stored.{emptyList}
 use Rattle.table.specs.declared.Table.{Table}
 use Rattle.table.specs.declared.Forgotten.{Forgotten}
@@ -31,6 +31,8 @@ use Rattle.table.specs.Stored.{tableOf, storeTable, Stored, stored, notStored}
 use Rattle.table.specs.Answers.{forgottenAs, copiedAs}
 use Rattle.totals.specs.Totals.{sums, totalsOf, noTotals}
 use Rattle.totals.proofs.Laws.{shown-closed}
+use Rattle.totals.specs.declared.Totals.{Totals}
+use Rattle.sets.specs.declared.Sets.{Sets}
 use Rattle.sets.specs.Stored.{withDraft}
 use Rattle.sets.proofs.StoreLaws.{store-closed}
 use Rattle.reading.specs.declared.Answer.{Answer}
@@ -42,28 +44,29 @@ use Rattle.promises.proofs.Contracts.{ReadsBlock, ReadsRecording, Forge
 
 -- ---- reading a block: 0 to 6, or 9
 
--- no list is open; held keys, on and off, shown sets, totals, and whatever else there is, are as they were
+-- no list is open, and one block more is counted; held keys, on and off, shown sets and their numbers, totals, and whatever else there
+-- is, are as they were
 abbrev pub OpenDropped : Table → Table → Type 0
-OpenDropped t u = u ≡ tableOf (withDraft (t .sets) (replicate mostKeys emptyList)) (t .totals)
+OpenDropped t u = u ≡ tableOf (withDraft (t .sets) (replicate mostKeys emptyList)) (t .totals) (nextBlock (t .blocks))
 
 pub data BlockAnswer (t : Table) (fib : List ℕ) (r : Answer) : Type 0 where
   -- 0, with one note a field
   done : Stored t → (fs : List Field) → verdict fib ≡ taken fs → numberOf (r .outcome) ≡ 0 → r .place ≡ 0 → r .notes .count ≡ length fs → BlockAnswer t fib r
   -- 1: everything is left as it was
   notABlock : Stored t → (length fib ≡ 32 → ⊥) → numberOf (r .outcome) ≡ 1 → r .place ≡ 0 → r .notes ≡ noNotes → r .table ≡ t → BlockAnswer t fib r
-  -- 2 to 6, each for its reason, at the place of the first fault within the class answered: everything but the open lists is left as
-  -- it was
+  -- 2 to 6, each for its reason, at the place of the first fault within the class answered: everything but the open lists and the count
+  -- is left as it was
   refusedBlock : Stored t → length fib ≡ 32 → Refused fib (numberOf (r .outcome)) (r .place) → FirstFault fib (numberOf (r .outcome)) (r .place)
       → r .notes ≡ noNotes → OpenDropped t (r .table) → BlockAnswer t fib r
   -- 9: everything is left as it was
   wrongTable : (Stored t → ⊥) → numberOf (r .outcome) ≡ 9 → r .place ≡ 0 → r .notes ≡ noNotes → r .table ≡ t → BlockAnswer t fib r
 
-dropped : (t u : Table) (c : Content) → meets c ≡ true → t ≡ storeTable c → u ≡ storeTable (withSets c (dropOpen linkage (c .sets))) → OpenDropped t u
+dropped : (t u : Table) (c : Content) → meets c ≡ true → t ≡ storeTable c → u ≡ storeTable (afterBlock c (dropOpen linkage (c .sets))) → OpenDropped t u
 unfolding totalsOf
 dropped t u c f p q =
     q
-    ∙ ap₂ tableOf (store-closed (c .sets) (table-rules (c .sets) .0 f .short)) (ap sums (shown-closed (c .sets)))
-    ∙ ap (λ (x : Table). tableOf (withDraft (x .sets) (replicate mostKeys emptyList)) (x .totals)) (sym p)
+    ∙ ap₂ (λ (s : Sets) (n : Totals). tableOf s n (nextBlock (c .blocks))) (store-closed (c .sets) (table-rules (c .sets) .0 (sets-meet c f) .short)) (ap sums (shown-closed (c .sets)))
+    ∙ ap (λ (x : Table). tableOf (withDraft (x .sets) (replicate mostKeys emptyList)) (x .totals) (nextBlock (x .blocks))) (sym p)
 
 pub read-block-answers : (t : Table) (fib : List ℕ) (r : Answer) → ReadsBlock t fib r → BlockAnswer t fib r
 unfolding Stored runAs refusedTable numberOf storeNotes
@@ -88,7 +91,8 @@ read-block-answers t fib r (stored c f p a) =
 read-block-answers t fib r (notStored n a) =
     wrongTable n (ap (λ (x : Answer). numberOf (x .outcome)) a) (ap (λ (x : Answer). x .place) a) (ap (λ (x : Answer). x .notes) a) (ap (λ (x : Answer). x .table) a)
 
--- a refusal leaves everything as it was, or it is one of 2 to 6, for its reason, and everything but the open lists is left as it was
+-- a refusal leaves everything as it was, or it is one of 2 to 6, for its reason, and everything but the open lists and the count is left as
+-- it was
 pub read-block-refused : (t : Table) (fib : List ℕ) (r : Answer) → BlockAnswer t fib r → (numberOf (r .outcome) ≡ 0 → ⊥)
     → (r .table ≡ t) ⊎ (Refused fib (numberOf (r .outcome)) (r .place) × OpenDropped t (r .table))
 read-block-refused t fib r (done s fs e o p n) h = absurd (h o)
@@ -129,23 +133,25 @@ abbrev pub Stores : Table → Content → Type 0
 Stores t c = (meets c ≡ true) × (t ≡ storeTable c)
 
 pub data RecordingAnswer (t : Table) (bytes : List ℕ) (r : Recorded) : Type 0 where
-  -- 0, with the number of bytes left over, and of starts that found no room
-  done : (c : Content) → Stores t c → numberOf (r .outcome) ≡ 0 → r .rest ≡ length bytes % 32 → r .full ≡ roomless c bytes → RecordingAnswer t bytes r
+  -- 0, with the number of bytes left over, of starts that found no room, and of refused blocks
+  done : (c : Content) → Stores t c → numberOf (r .outcome) ≡ 0 → r .rest ≡ length bytes % 32 → r .full ≡ roomless c bytes
+      → r .refused ≡ refusals bytes → RecordingAnswer t bytes r
   -- 9: everything is left as it was
-  wrongTable : (Stored t → ⊥) → numberOf (r .outcome) ≡ 9 → r .rest ≡ 0 → r .full ≡ 0 → r .table ≡ t → RecordingAnswer t bytes r
+  wrongTable : (Stored t → ⊥) → numberOf (r .outcome) ≡ 9 → r .rest ≡ 0 → r .full ≡ 0 → r .refused ≡ 0 → r .table ≡ t → RecordingAnswer t bytes r
 
 pub read-recording-answers : (t : Table) (bytes : List ℕ) (r : Recorded) → ReadsRecording t bytes r → RecordingAnswer t bytes r
 unfolding Stored recordedAs unrecorded numberOf leftOver
 read-recording-answers t bytes r (stored c f p a) =
     done c (f, p) (ap (λ (x : Recorded). numberOf (x .outcome)) a) (ap (λ (x : Recorded). x .rest) a) (ap (λ (x : Recorded). x .full) a)
+    (ap (λ (x : Recorded). x .refused) a)
 read-recording-answers t bytes r (notStored n a) =
     wrongTable n (ap (λ (x : Recorded). numberOf (x .outcome)) a) (ap (λ (x : Recorded). x .rest) a) (ap (λ (x : Recorded). x .full) a)
-    (ap (λ (x : Recorded). x .table) a)
+    (ap (λ (x : Recorded). x .refused) a) (ap (λ (x : Recorded). x .table) a)
 
 -- a refusal leaves everything as it was
 pub read-recording-refused : (t : Table) (bytes : List ℕ) (r : Recorded) → RecordingAnswer t bytes r → (numberOf (r .outcome) ≡ 0 → ⊥) → r .table ≡ t
-read-recording-refused t bytes r (done c s o n f) h = absurd (h o)
-read-recording-refused t bytes r (wrongTable s o n f e) h = e
+read-recording-refused t bytes r (done c s o n f q) h = absurd (h o)
+read-recording-refused t bytes r (wrongTable s o n f q e) h = e
 
 -- ---- forgetting: 0, 7 or 9
 
@@ -172,7 +178,7 @@ forget-key-answers t k r (stored c f p a) =
     let n = ap (λ (x : Forgotten). numberOf (x .outcome)) a in
     cases-option (find linkage k (c .sets))
     (λ e. notHeld c (f, p) e (n ∙ ap (λ (o : Option Held). numberOf (heldOr o Done)) e)
-    (ap (λ (x : Forgotten). x .table) a ∙ ap (λ (s : Entries). storeTable (justSets s)) (forget-unheld k (c .sets) e) ∙ sym p))
+    (ap (λ (x : Forgotten). x .table) a ∙ ap (λ (s : Entries). storeTable (withSets c s)) (forget-unheld k (c .sets) e) ∙ sym p))
     (λ x e. done c (f, p) x e (n ∙ ap (λ (o : Option Held). numberOf (heldOr o Done)) e))
 forget-key-answers t k r (notStored n a) = wrongTable n (ap (λ (x : Forgotten). numberOf (x .outcome)) a) (ap (λ (x : Forgotten). x .table) a)
 
@@ -188,7 +194,7 @@ forget-key-refused t k r (wrongTable s o e) h = e
 pub record Uncopied (ns ks : List ℕ) (r : Copied) (ms js : List ℕ) : Type 0 where
   pub numbers : ms ≡ ns
   pub kinds : js ≡ ks
-  pub answer : r ≡ record { outcome = r .outcome; key = 0; on = false; named = 0; count = 0 }
+  pub answer : r ≡ record { outcome = r .outcome; key = 0; on = false; named = 0; confirmed = 0; count = 0 }
 
 pub data CopyAnswer (t : Table) (k : ℕ) (ns ks : List ℕ) (r : Copied) (ms js : List ℕ) : Type 0 where
   -- 0: the key is held, its set shown, and both buffers are long enough
@@ -209,12 +215,13 @@ uncopied o ns ks r ms js e =
     let key = ap (λ (x : Outcomes.Copied). x .key) e in
     let on = ap (λ (x : Outcomes.Copied). x .on) e in
     let named = ap (λ (x : Outcomes.Copied). x .named) e in
+    let confirmed = ap (λ (x : Outcomes.Copied). x .confirmed) e in
     let count = ap (λ (x : Outcomes.Copied). x .count) e in (
       ap (λ (x : Outcomes.Copied). numberOf (x .outcome)) e,
       record {
         numbers = ap (λ (x : Outcomes.Copied). x .numbers) e;
         kinds = ap (λ (x : Outcomes.Copied). x .kinds) e;
-        answer = λ i. record { outcome = r .outcome; key = key i; on = on i; named = named i; count = count i };
+        answer = λ i. record { outcome = r .outcome; key = key i; on = on i; named = named i; confirmed = confirmed i; count = count i };
       },
     )
 

@@ -53,7 +53,7 @@ pub read-call : {t : Table} (c : Content) (fib : List ℕ) (r : Answer) → Stor
 unfolding afterOne replyTo runAs
 read-call c fib r s b x =
     let e : r ≡ runAs (readBlock c fib) = given-content c (s .0) (s .1) x in (
-      (table-meets (readBlock c fib .left .sets) .1 (meets-block c fib b (table-meets (c .sets) .0 (s .0))), ap (λ (a : Answer). a .table) e),
+      (meets-block c fib b (s .0), ap (λ (a : Answer). a .table) e),
       ap blockReply e ∙ reply-stored (readBlock c fib),
     )
 

@@ -7,7 +7,7 @@ use Rattle.rules.specs.Collecting.{Content, nothing}
 use Rattle.rules.specs.Outcomes.{readBlock}
 use Rattle.promises.specs.Demand3.{Operation, block, forgetting, afterOne}
 use Rattle.rules.proofs.Basics.{Every}
-use Rattle.rules.proofs.TableRules.{meets-nil}
+use Rattle.rules.proofs.TableRules.{nothing-meets}
 use Rattle.table.specs.declared.Table.{Table}
 use Rattle.table.specs.Stored.{storeTable, Stored, stored}
 use Rattle.table.specs.Answers.{forgottenAs}
@@ -48,7 +48,7 @@ calls-totals {u = u} {ops = ops} c s b xs = let e = calls-hold c s b xs .0 in st
 -- From the table that holds nothing.
 pub calls-hold-from-empty : {u : Table} {ops : List Operation} {rs : List Reply} → Every OfBytes ops → Calls (storeTable nothing) ops rs u
     → Stores u (afterAll nothing ops) × (rs ≡ repliesTo nothing ops)
-calls-hold-from-empty b xs = calls-hold nothing (meets-nil, refl) b xs
+calls-hold-from-empty b xs = calls-hold nothing (nothing-meets, refl) b xs
 
 -- And there are such calls, whatever the operations: the contracts admit this run and, by the above, no other.
 pub calls-exist : {t : Table} (c : Content) (ops : List Operation) → Stores t c → Every OfBytes ops

@@ -18,29 +18,29 @@ use Rattle.screen.specs.Screen.{totalsText}
 use Rattle.screen.specs.Screen as screen
 use Rattle.text.specs.Listing.{kindLetter, pairText, pairsText, deadText, stateText, idsText, lineOf, linesOf, tailText, listing}
 
-pub sheet-holds : sheet (E true (some two) (some two)) ≡ 0x01 ∷ 0x84 ∷ 0x40 ∷ 0x01 ∷ 0x01 ∷ 0x02 ∷ 0x00 ∷ 0xB1 ∷ 0x89 ∷ 0x01 ∷ 0x01 ∷ 0xB1 ∷ 0x89 ∷ 0x01 ∷ []
+pub sheet-holds : sheet (E 2 true (some two) 2 (some two)) ≡ 0x01 ∷ 0x84 ∷ 0x40 ∷ 0x01 ∷ 0x01 ∷ 0x02 ∷ 0x00 ∷ 0xB1 ∷ 0x89 ∷ 0x01 ∷ 0x01 ∷ 0xB1 ∷ 0x89 ∷ 0x01 ∷ []
 unfolding sheet sheetSets sheetSet sheetPairs sheetNumber groups bit shownSets showing pair
 sheet-holds = refl
 
 -- `sets 1` and `2004 on ids 2 D44B1 R44B1`
-pub listing-holds : listing (E true (some two) (some two)) 0 ≡ 115 ∷ 101 ∷ 116 ∷ 115 ∷ 32 ∷ 49 ∷ 10 ∷ 50 ∷ 48 ∷ 48 ∷ 52 ∷ 32 ∷ 111 ∷ 110 ∷ 32 ∷ 105 ∷ 100 ∷ 115 ∷ 32 ∷ 50 ∷ 32 ∷ 68 ∷ 52 ∷ 52 ∷ 66 ∷ 49 ∷ 32 ∷ 82 ∷ 52 ∷ 52 ∷ 66 ∷ 49 ∷ 10 ∷ []
+pub listing-holds : listing (E 2 true (some two) 2 (some two)) 0 ≡ 115 ∷ 101 ∷ 116 ∷ 115 ∷ 32 ∷ 49 ∷ 10 ∷ 50 ∷ 48 ∷ 48 ∷ 52 ∷ 32 ∷ 111 ∷ 110 ∷ 32 ∷ 105 ∷ 100 ∷ 115 ∷ 32 ∷ 50 ∷ 32 ∷ 68 ∷ 52 ∷ 52 ∷ 66 ∷ 49 ∷ 32 ∷ 82 ∷ 52 ∷ 52 ∷ 66 ∷ 49 ∷ 10 ∷ []
 unfolding listing linesOf lineOf pairsText pairText deadText stateText idsText tailText kindLetter hexText hexDigit decimal decimalTo hasKind keyWidth width shownSets showing pair
 listing-holds = refl
 
 -- `shown 1, on 1, identifiers 2`
-pub totals-hold : totalsText (E true (some two) (some two)) ≡ 115 ∷ 104 ∷ 111 ∷ 119 ∷ 110 ∷ 32 ∷ 49 ∷ 44 ∷ 32 ∷ 111 ∷ 110 ∷ 32 ∷ 49 ∷ 44 ∷ 32 ∷ 105 ∷ 100 ∷ 101 ∷ 110 ∷ 116 ∷ 105 ∷ 102 ∷ 105 ∷ 101 ∷ 114 ∷ 115 ∷ 32 ∷ 50 ∷ 10 ∷ []
+pub totals-hold : totalsText (E 2 true (some two) 2 (some two)) ≡ 115 ∷ 104 ∷ 111 ∷ 119 ∷ 110 ∷ 32 ∷ 49 ∷ 44 ∷ 32 ∷ 111 ∷ 110 ∷ 32 ∷ 49 ∷ 44 ∷ 32 ∷ 105 ∷ 100 ∷ 101 ∷ 110 ∷ 116 ∷ 105 ∷ 102 ∷ 105 ∷ 101 ∷ 114 ∷ 115 ∷ 32 ∷ 50 ∷ 10 ∷ []
 unfolding totalsText screen.lineOf totalsOf sums sumOf bit decimal decimalTo shownSets showing
 totals-hold = refl
 
-pub other-sheet-holds : sheet (O (some codes) (some codes)) ≡ 0x01 ∷ 0x84 ∷ 0xC0 ∷ 0x02 ∷ 0x01 ∷ 0x01 ∷ 0x02 ∷ 0x01 ∷ 0xB1 ∷ 0x89 ∷ 0x01 ∷ 0x01 ∷ 0xB1 ∷ 0x87 ∷ 0x01 ∷ []
+pub other-sheet-holds : sheet (O 2 (some codes) 2 (some codes)) ≡ 0x01 ∷ 0x84 ∷ 0xC0 ∷ 0x02 ∷ 0x01 ∷ 0x01 ∷ 0x02 ∷ 0x01 ∷ 0xB1 ∷ 0x89 ∷ 0x01 ∷ 0x01 ∷ 0xB1 ∷ 0x87 ∷ 0x01 ∷ []
 unfolding sheet sheetSets sheetSet sheetPairs sheetNumber groups bit shownSets showing pair
 other-sheet-holds = refl
 
 -- `sets 1` and `A004 on ids 2 R44B1 R43B1`
-pub other-listing-holds : listing (O (some codes) (some codes)) 0 ≡ 115 ∷ 101 ∷ 116 ∷ 115 ∷ 32 ∷ 49 ∷ 10 ∷ 65 ∷ 48 ∷ 48 ∷ 52 ∷ 32 ∷ 111 ∷ 110 ∷ 32 ∷ 105 ∷ 100 ∷ 115 ∷ 32 ∷ 50 ∷ 32 ∷ 82 ∷ 52 ∷ 52 ∷ 66 ∷ 49 ∷ 32 ∷ 82 ∷ 52 ∷ 51 ∷ 66 ∷ 49 ∷ 10 ∷ []
+pub other-listing-holds : listing (O 2 (some codes) 2 (some codes)) 0 ≡ 115 ∷ 101 ∷ 116 ∷ 115 ∷ 32 ∷ 49 ∷ 10 ∷ 65 ∷ 48 ∷ 48 ∷ 52 ∷ 32 ∷ 111 ∷ 110 ∷ 32 ∷ 105 ∷ 100 ∷ 115 ∷ 32 ∷ 50 ∷ 32 ∷ 82 ∷ 52 ∷ 52 ∷ 66 ∷ 49 ∷ 32 ∷ 82 ∷ 52 ∷ 51 ∷ 66 ∷ 49 ∷ 10 ∷ []
 unfolding listing linesOf lineOf pairsText pairText deadText stateText idsText tailText kindLetter hexText hexDigit decimal decimalTo hasKind keyWidth width shownSets showing pair
 other-listing-holds = refl
 
-pub other-air-holds : air (O (some codes) (some codes)) ≡ other
+pub other-air-holds : air (O 2 (some codes) 2 (some codes)) ≡ other
 unfolding air allBlocks setBlocks blocksOf blockOf figBytes fieldBytes allBytes bigBytes pieces cut startQualifier kindIn chop completed goesOn pieceWith deadLink pieceMost hasKind firstOf firstKind keyWidth width shownSets showing pair bits bit number generator shift shifts register checkOf mathlib.Core.Bool.xor mathlib.Core.List.zipWith
 other-air-holds = refl

@@ -6,7 +6,7 @@ use mathlib.Core.List.{List}
 use lib.ListN.{getD}
 use Rattle.rules.specs.Collecting.{nothing}
 use Rattle.rules.specs.Outcomes.{readBlock, readRecording, forgotten}
-use Rattle.rules.proofs.TableRules.{meets-nil}
+use Rattle.rules.proofs.TableRules.{nothing-meets}
 use Rattle.rules.proofs.LinkageLaws.{block-keeps, recording-keeps, forget-keeps}
 use Rattle.layout.proofs.Laws.{load-meets}
 use Rattle.table.specs.declared.Table.{Table}
@@ -43,4 +43,4 @@ load-sheet-meets bytes r a = (a .left, load-meets (a .load), a .stored)
 -- the table that holds nothing meets them
 pub empty-meets : (t : Table) → t ≡ storeTable nothing → Stored t
 unfolding Stored
-empty-meets t e = (nothing, meets-nil, e)
+empty-meets t e = (nothing, nothing-meets, e)

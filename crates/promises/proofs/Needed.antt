@@ -13,7 +13,7 @@ use Rattle.rules.specs.declared.Note.the-variants.{Full, ShownAndOpened}
 use Rattle.rules.specs.Block.{bits, bit, number, generator, shift, shifts, register, checkOf, checkHolds, after, walk, figAt, figs}
 use Rattle.rules.specs.Field.{isLinking, width, bigEndian, identifiers, shortField, listField, listBytes, fieldAt, fieldsOf, keyOf, pair, hasList, isContinuation, firstKind, startPairs, pairsOf, namedBy, wrongValue, emptyStart}
 use Rattle.rules.specs.Family.{Said, start, member, added, addedAll, opening, extended, entryWith, started, continued, onHeld, fresh, onUnheld, kept, effect, find, replace, insert, store, step, steps, closed, dropOpen}
-use Rattle.rules.specs.Collecting.{samePair, joinNames, linkage, IdSet, nothing, brings, actOf, said, Shown, showing, shownSets}
+use Rattle.rules.specs.Collecting.{samePair, joinNames, linkage, IdSet, nothing, brings, actOf, said, nextBlock, Shown, showing, shownSets}
 use Rattle.rules.specs.Outcomes.{joined, allFields, some?, judgeFields, judgeFigs, verdict, answerTo, readBlock}
 use Rattle.pieces.specs.Air.{blockOf}
 use Rattle.rules.specs.Receptions.{Shows, ShowsIn, Op, takes, refuses, afterOp}
@@ -30,7 +30,7 @@ dabs ns = record { items = map (pair 0) ns; named = 0 }
 
 -- a start of key 2000 hex plus n, on, with one service
 unfoldable pub startOf : ℕ → Said linkage
-startOf n = record { key = 0x2000 + n; state = true; act = start (dabs (1 ∷ [])); stamp = tt }
+startOf n = record { key = 0x2000 + n; state = true; act = start (dabs (1 ∷ [])); stamp = n }
 
 unfoldable pub aloneInBlock : ℕ → Op linkage
 aloneInBlock n = takes (startOf n ∷ [])
@@ -63,11 +63,11 @@ moreBlock x = blockOf (6 ∷ 134 ∷ 224 ∷ 4 ∷ 1 ∷ 0 ∷ x ∷ [])
 
 -- start, continuation, start; nothing arrives in place of the continuation: half a list comes to be shown
 pub half-is-shown : ShowsAt nothing (block (startBlock 1) ∷ block [] ∷ block (startBlock 1) ∷ []) 2 0 (record { key = 0x2004; on = true; set = dabs (1 ∷ []) })
-unfolding ShowsAt ShowsIn saidBy fieldsIn startBlock dabs blockOf bits bit number generator shift shifts register checkOf checkHolds after walk figAt figs isLinking width bigEndian identifiers shortField listField listBytes fieldAt fieldsOf keyOf pair hasList isContinuation firstKind startPairs pairsOf namedBy wrongValue emptyStart member added addedAll opening extended entryWith started continued onHeld fresh onUnheld kept effect find replace insert store step steps closed dropOpen samePair joinNames brings actOf said joined allFields some? judgeFields judgeFigs verdict answerTo readBlock afterOne mathlib.Core.Bool.xor mathlib.Core.List.zipWith
+unfolding ShowsAt ShowsIn saidBy fieldsIn startBlock dabs blockOf bits bit number generator shift shifts register checkOf checkHolds after walk figAt figs isLinking width bigEndian identifiers shortField listField listBytes fieldAt fieldsOf keyOf pair hasList isContinuation firstKind startPairs pairsOf namedBy wrongValue emptyStart member added addedAll opening extended entryWith started continued onHeld fresh onUnheld kept effect find replace insert store step steps closed dropOpen samePair joinNames brings actOf said nextBlock joined allFields some? judgeFields judgeFigs verdict answerTo readBlock afterOne mathlib.Core.Bool.xor mathlib.Core.List.zipWith
 half-is-shown = record { noted = refl; draft = some (dabs (1 ∷ [])); found = refl }
 
 pub whole-is-shown : ShowsAt nothing (block (startBlock 1) ∷ block (moreBlock 2) ∷ block (startBlock 1) ∷ []) 2 0 (record { key = 0x2004; on = true; set = dabs (1 ∷ 2 ∷ []) })
-unfolding ShowsAt ShowsIn saidBy fieldsIn startBlock moreBlock dabs blockOf bits bit number generator shift shifts register checkOf checkHolds after walk figAt figs isLinking width bigEndian identifiers shortField listField listBytes fieldAt fieldsOf keyOf pair hasList isContinuation firstKind startPairs pairsOf namedBy wrongValue emptyStart member added addedAll opening extended entryWith started continued onHeld fresh onUnheld kept effect find replace insert store step steps closed dropOpen samePair joinNames brings actOf said joined allFields some? judgeFields judgeFigs verdict answerTo readBlock afterOne mathlib.Core.Bool.xor mathlib.Core.List.zipWith
+unfolding ShowsAt ShowsIn saidBy fieldsIn startBlock moreBlock dabs blockOf bits bit number generator shift shifts register checkOf checkHolds after walk figAt figs isLinking width bigEndian identifiers shortField listField listBytes fieldAt fieldsOf keyOf pair hasList isContinuation firstKind startPairs pairsOf namedBy wrongValue emptyStart member added addedAll opening extended entryWith started continued onHeld fresh onUnheld kept effect find replace insert store step steps closed dropOpen samePair joinNames brings actOf said nextBlock joined allFields some? judgeFields judgeFigs verdict answerTo readBlock afterOne mathlib.Core.Bool.xor mathlib.Core.List.zipWith
 whole-is-shown = record { noted = refl; draft = some (dabs (1 ∷ [])); found = refl }
 
 pub half-is-not : ShowsAt nothing (block (startBlock 1) ∷ block (moreBlock 2) ∷ block (startBlock 1) ∷ []) 2 0 (record { key = 0x2004; on = true; set = dabs (1 ∷ []) }) → ⊥
@@ -92,9 +92,9 @@ is-worse = same _ (same _ (spoilt _ _ refl refl refl (same _ over)))
 
 -- the better one then shows the second set, the worse one still the first
 pub better-shows : shownSets (afterAll nothing better .sets) ≡ record { key = 0x2004; on = true; set = dabs (2 ∷ []) } ∷ []
-unfolding afterAll showing shownSets startBlock dabs blockOf bits bit number generator shift shifts register checkOf checkHolds after walk figAt figs isLinking width bigEndian identifiers shortField listField listBytes fieldAt fieldsOf keyOf pair hasList isContinuation firstKind startPairs pairsOf namedBy wrongValue emptyStart member added addedAll opening extended entryWith started continued onHeld fresh onUnheld kept effect find replace insert store step steps closed dropOpen samePair joinNames brings actOf said joined allFields some? judgeFields judgeFigs verdict answerTo readBlock afterOne mathlib.Core.Bool.xor mathlib.Core.List.zipWith
+unfolding afterAll showing shownSets startBlock dabs blockOf bits bit number generator shift shifts register checkOf checkHolds after walk figAt figs isLinking width bigEndian identifiers shortField listField listBytes fieldAt fieldsOf keyOf pair hasList isContinuation firstKind startPairs pairsOf namedBy wrongValue emptyStart member added addedAll opening extended entryWith started continued onHeld fresh onUnheld kept effect find replace insert store step steps closed dropOpen samePair joinNames brings actOf said nextBlock joined allFields some? judgeFields judgeFigs verdict answerTo readBlock afterOne mathlib.Core.Bool.xor mathlib.Core.List.zipWith
 better-shows = refl
 
 pub worse-shows : shownSets (afterAll nothing worse .sets) ≡ record { key = 0x2004; on = true; set = dabs (1 ∷ []) } ∷ []
-unfolding afterAll showing shownSets startBlock dabs blockOf bits bit number generator shift shifts register checkOf checkHolds after walk figAt figs isLinking width bigEndian identifiers shortField listField listBytes fieldAt fieldsOf keyOf pair hasList isContinuation firstKind startPairs pairsOf namedBy wrongValue emptyStart member added addedAll opening extended entryWith started continued onHeld fresh onUnheld kept effect find replace insert store step steps closed dropOpen samePair joinNames brings actOf said joined allFields some? judgeFields judgeFigs verdict answerTo readBlock afterOne mathlib.Core.Bool.xor mathlib.Core.List.zipWith
+unfolding afterAll showing shownSets startBlock dabs blockOf bits bit number generator shift shifts register checkOf checkHolds after walk figAt figs isLinking width bigEndian identifiers shortField listField listBytes fieldAt fieldsOf keyOf pair hasList isContinuation firstKind startPairs pairsOf namedBy wrongValue emptyStart member added addedAll opening extended entryWith started continued onHeld fresh onUnheld kept effect find replace insert store step steps closed dropOpen samePair joinNames brings actOf said nextBlock joined allFields some? judgeFields judgeFigs verdict answerTo readBlock afterOne mathlib.Core.Bool.xor mathlib.Core.List.zipWith
 worse-shows = refl

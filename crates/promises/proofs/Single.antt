@@ -70,7 +70,7 @@ totals-single t r q a b = given-single t r q _ (λ c. record { outcome = Done; t
 pub copied-apart : (r q : Copied) (ns ks ms js : List ℕ) → copiedAs r ns ks ≡ copiedAs q ms js → (r ≡ q) × (ns ≡ ms) × (ks ≡ js)
 unfolding copiedAs
 copied-apart r q ns ks ms js e = (
-  λ i. record { outcome = e i .outcome; key = e i .key; on = e i .on; named = e i .named; count = e i .count },
+  λ i. record { outcome = e i .outcome; key = e i .key; on = e i .on; named = e i .named; confirmed = e i .confirmed; count = e i .count },
   ap (λ (x : Outcomes.Copied). x .numbers) e,
   ap (λ (x : Outcomes.Copied). x .kinds) e,
 )

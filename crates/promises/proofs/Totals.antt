@@ -6,6 +6,7 @@ use mathlib.Core.Path.{_≡_, sym, ap, _∙_}
 use mathlib.Core.List.{List}
 use lib.ListN.{getD}
 use Rattle.rules.specs.Collecting.{Content}
+use Rattle.rules.proofs.TableRules.{sets-meet}
 use Rattle.sets.specs.Shown.{setsIn}
 use Rattle.sets.proofs.ShownLaws.{sets-stored}
 use Rattle.totals.specs.Totals.{sums, totalsOf}
@@ -26,7 +27,7 @@ RightTotals t = t .totals ≡ sums (setsIn (t .sets))
 pub stored-totals : (t : Table) → Stored t → RightTotals t
 unfolding Stored totalsOf
 stored-totals t s =
-    ap (λ (u : Table). u .totals) (s .2) ∙ ap sums (sym (sets-stored (s .0 .sets) (s .1)))
+    ap (λ (u : Table). u .totals) (s .2) ∙ ap sums (sym (sets-stored (s .0 .sets) (sets-meet (s .0) (s .1))))
     ∙ sym (ap (λ (u : Table). sums (setsIn (u .sets))) (s .2))
 
 pub read-block-totals : (t : Table) (fib : List ℕ) (r : Answer) → ((i : ℕ) → getD fib i 0 < 256) → Stored t → ReadsBlock t fib r → RightTotals (r .table)

@@ -7,7 +7,7 @@ use mathlib.Core.List.{List, [], _∷_, _++_, map}
 use lib.ListN.{length}
 use Rattle.rules.specs.Block.{checkHolds}
 use Rattle.rules.specs.Family.{Said}
-use Rattle.rules.specs.Collecting.{linkage, Content, said, Shown}
+use Rattle.rules.specs.Collecting.{linkage, Content, nextBlock, said, Shown}
 use Rattle.rules.specs.Receptions.{heldKeys, startedKeys, once, ShowsIn}
 use Rattle.rules.specs.Outcomes.{Verdict, taken, refused, noBlock, verdict, readBlock, forgotten}
 
@@ -23,16 +23,16 @@ unfoldable pub afterOne : Content → Operation → Content
 afterOne t (block fib) = readBlock t fib .left
 afterOne t (forgetting k) = forgotten k t
 
--- the fields of a taken block
-unfoldable pub fieldsIn : Verdict → List (Said linkage)
-fieldsIn (taken fs) = map said fs
-fieldsIn (refused o p) = []
-fieldsIn noBlock = []
+-- the fields of a taken block, which has this number
+unfoldable pub fieldsIn : ℕ → Verdict → List (Said linkage)
+fieldsIn n (taken fs) = map (said n) fs
+fieldsIn n (refused o p) = []
+fieldsIn n noBlock = []
 
--- what the fields of an operation say: of a taken block, in order
-unfoldable pub saidBy : Operation → List (Said linkage)
-saidBy (block fib) = fieldsIn (verdict fib)
-saidBy (forgetting k) = []
+-- what the fields of an operation say: of a taken block of this number, in order
+unfoldable pub saidBy : ℕ → Operation → List (Said linkage)
+saidBy n (block fib) = fieldsIn n (verdict fib)
+saidBy n (forgetting k) = []
 
 -- one reception and a worse one: the same, but some blocks of 32 bytes arrive, still as 32 bytes, with a failing check
 pub data Worse : List Operation → List Operation → Type 0 where
@@ -44,13 +44,13 @@ pub data Worse : List Operation → List Operation → Type 0 where
 -- a reception that finds this table comes to show a set at field j of operation i
 unfoldable pub ShowsAt : Content → List Operation → ℕ → ℕ → Shown → Type 0
 ShowsAt t [] i j s = ⊥
-ShowsAt t (o ∷ os) zero j s = ShowsIn linkage (t .sets) (saidBy o) j (s .key) (s .on) (s .set)
+ShowsAt t (o ∷ os) zero j s = ShowsIn linkage (t .sets) (saidBy (nextBlock (t .blocks)) o) j (s .key) (s .on) (s .set)
 ShowsAt t (o ∷ os) (suc i) j s = ShowsAt (afterOne t o) os i j s
 
--- the keys that a reception starts, in taken blocks
+-- the keys that a reception starts, in taken blocks, whatever their numbers
 unfoldable pub startedBy : List Operation → List ℕ
 startedBy [] = []
-startedBy (o ∷ os) = startedKeys linkage (saidBy o) ++ startedBy os
+startedBy (o ∷ os) = startedKeys linkage (saidBy 0 o) ++ startedBy os
 
 -- how many distinct keys a table holds or a reception starts
 unfoldable pub keyCount : Content → List Operation → ℕ

@@ -8,13 +8,13 @@ use mathlib.Core.List.{List, [], _∷_, _++_, append-assoc}
 use lib.ListN.{length, take, drop, length-drop}
 use lib.Seq.{take-append-le, drop-append-le}
 use Rattle.rules.specs.Block.{bit}
-use Rattle.rules.specs.Outcomes.{numberOf, Verdict, verdict}
+use Rattle.rules.specs.Outcomes.{numberOf, Verdict, verdict, isRefused, refusedOf}
 use Rattle.rules.proofs.Basics.{bit-small}
 use Rattle.rules.proofs.LinkageLaws.{refused-full, refused-numbers}
 use Rattle.block.specs.declared.Judged.{Judged}
 use Rattle.block.specs.Judged.{judged}
 use Rattle.block.proofs.Meaning.{JudgedAs, isTaken, isRefused as refusedAs, isNoBlock, says}
-use Rattle.report.specs.Report.{refusalLine, blockLine, linesOf, isRefused, refusedOf}
+use Rattle.report.specs.Report.{refusalLine, blockLine, linesOf}
 
 -- ---- whole blocks before others
 

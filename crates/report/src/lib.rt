@@ -7,9 +7,9 @@ use out::put_bytes;
 use out::put_decimal;
 use rules::Outcome;
 ghost use Rattle.rules.specs.Block.{bit};
-ghost use Rattle.rules.specs.Outcomes.{verdict};
+ghost use Rattle.rules.specs.Outcomes.{verdict, isRefused};
 ghost use Rattle.out.specs.Put.{Puts};
-ghost use Rattle.report.specs.Report.{wordsOf, placeText, refusalLine, blockLine, isRefused, countLine, countsText};
+ghost use Rattle.report.specs.Report.{wordsOf, placeText, refusalLine, blockLine, countLine, countsText};
 ghost use Rattle.report.specs.Telling.{Tells};
 
 // ---- the line of a refused block
