@@ -12,7 +12,7 @@ use Rattle.rules.specs.declared.Outcome.the-variants.{Done}
 use Rattle.rules.specs.declared.Note.{Note}
 use Rattle.rules.specs.declared.Note.the-variants.{Opened, ShownAndOpened, Added, NoOpenList, Full, TooLong, StateOnly, UnknownKey, Dropped}
 use Rattle.rules.specs.Family.{find}
-use Rattle.rules.specs.Collecting.{linkage, IdSet, Held, Content, Shown, mostIds}
+use Rattle.rules.specs.Collecting.{linkage, IdSet, Held, Content, nextBlock, Shown, mostIds}
 use Rattle.rules.specs.Outcomes as Outcomes
 use Rattle.rules.specs.Outcomes.{numberOf, noteNumber, Verdict, taken, refused, noBlock, verdict, answerTo, readBlock, copySet, copyHeld, copyOut}
 use Rattle.rules.specs.Receptions.{ShowsIn}
@@ -20,7 +20,7 @@ use Rattle.promises.specs.Demand3.{Operation, block, forgetting, afterOn
 use Rattle.rules.proofs.Basics.{none-some, Within}
 use Rattle.rules.proofs.FamilyLaws.{every-found}
 use Rattle.rules.proofs.Arrays.{take-padded}
-use Rattle.rules.proofs.TableRules.{SetMeets, EntryMeets, table-meets}
+use Rattle.rules.proofs.TableRules.{SetMeets, EntryMeets, table-meets, sets-meet}
 use Rattle.rules.proofs.LinkageLaws.{meets-block, forget-keeps}
 use Rattle.promises.proofs.Better.{noted-shown, shown-noted}
 use Rattle.table.specs.declared.Table.{Table}
@@ -76,7 +76,7 @@ pub copy-shown : {u : Table} (k : ℕ) (c : Content) (ns ks : List ℕ) (r : Cop
     → mostIds ≤ length ns → mostIds ≤ length ks → CopiesOut u k ns ks r nr kr → numberOf (r .outcome) ≡ 0
 unfolding copyOut copyHeld copySet copiedAs numberOf
 copy-shown k c ns ks r nr kr s x n m y =
-    let meets = subst (Within EntryMeets) (x .found) (every-found linkage EntryMeets k (c .sets) (table-meets (c .sets) .0 (s .0) .entries)) in
+    let meets = subst (Within EntryMeets) (x .found) (every-found linkage EntryMeets k (c .sets) (table-meets (c .sets) .0 (sets-meet c (s .0)) .entries)) in
     let short = subst (Within (SetMeets (x .held .key))) (x .shown) (meets .1 .0) .short in
     let held = ap (λ (o : Option Held). copyHeld o ns ks) (x .found) in
     let e = given-content c (s .0) (s .1) y ∙ held ∙ ap (λ (o : Option IdSet). copySet (x .held) o ns ks) (x .shown) in
@@ -122,7 +122,7 @@ reply-shows c (forgetting k ∷ os) zero j x =
     none-some refl (ap (λ (r : Reply). getElem? (r .notes) j) q ∙ x .noted)
 
 -- a block at a field of which a set came to be shown was taken
-pub shows-done : (c : Content) (v : Verdict) (j k : ℕ) (on : Bool) (l : IdSet) → ShowsIn linkage (c .sets) (fieldsIn v) j k on l
+pub shows-done : (c : Content) (v : Verdict) (j k : ℕ) (on : Bool) (l : IdSet) → ShowsIn linkage (c .sets) (fieldsIn (nextBlock (c .blocks)) v) j k on l
     → answerTo c v .outcome ≡ Done
 unfolding answerTo fieldsIn ShowsIn
 shows-done c (taken fs) j k on l h = refl

@@ -9,6 +9,7 @@ use Rattle.rules.specs.Outcomes.{readBlock, copyOut, notCopied}
 use Rattle.pieces.specs.Air.{air}
 use Rattle.layout.specs.Sheet.{sheet}
 use Rattle.text.specs.Listing.{listing}
+use Rattle.text.specs.Confirmed.{confirmedListing}
 use Rattle.screen.specs.Screen.{totalsText}
 use Rattle.totals.specs.Totals.{totalsOf, noTotals}
 use Rattle.table.specs.declared.Table.{Table}
@@ -46,9 +47,13 @@ Counts t r = Given t (λ c. r ≡ record { outcome = Done; totals = totalsOf c }
 abbrev pub WritesListing : Table → ℕ → List ℕ → Written → List ℕ → Type 0
 WritesListing t over = Outputs (λ c. listing c over) t
 
--- for a spreadsheet or for eyes
-abbrev pub WritesColumns : Table → Bool → List ℕ → Written → List ℕ → Type 0
-WritesColumns t csv = Outputs (columns csv) t
+-- with the numbers of blocks
+abbrev pub WritesConfirmed : Table → ℕ → List ℕ → Written → List ℕ → Type 0
+WritesConfirmed t over = Outputs (λ c. confirmedListing c over) t
+
+-- for a spreadsheet or for eyes, with the numbers of blocks or without
+abbrev pub WritesColumns : Table → Bool → Bool → List ℕ → Written → List ℕ → Type 0
+WritesColumns t csv numbered = Outputs (columns csv numbered) t
 
 abbrev pub WritesTotals : Table → List ℕ → Written → List ℕ → Type 0
 WritesTotals = Outputs totalsText

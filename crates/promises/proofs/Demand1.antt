@@ -1,5 +1,6 @@
 -- Whatever bytes, table and buffers are handed over, a call ends with one answer of the numbered list; a refusal takes away the open
--- lists, where a block of 32 bytes was refused for what is in it, and nothing else (document 00, demand 1).
+-- lists and counts one block more, where a block of 32 bytes was refused for what is in it, and nothing else (document 00, demand 1; since
+-- document 02's R-9 such a block is counted).
 --
 -- Below, of the code of each public function, which requires nothing of its caller: it ends, and the answer, with what is left, is one
 -- of those that the cited type has. Each of them says its number, when it is given and what is left (BlockAnswer to CountAnswer:
@@ -10,6 +11,7 @@ use denote.Ref.{now}
 use Rattle.pieces.specs.Air.{air}
 use Rattle.layout.specs.Sheet.{sheet}
 use Rattle.text.specs.Listing.{listing}
+use Rattle.text.specs.Confirmed.{confirmedListing}
 use Rattle.columns.specs.Columns.{columns}
 use Rattle.screen.specs.Screen.{totalsText}
 use Rattle.outputs.specs.Output.{outputOf}
@@ -19,6 +21,7 @@ use Rattle.table.proofs.forget_key as forget-key
 use Rattle.table.proofs.copy_out as copy-out
 use Rattle.table.proofs.Table.totals as totals
 use Rattle.text.proofs.write_listing as write-listing
+use Rattle.text.proofs.write_confirmed as write-confirmed
 use Rattle.columns.proofs.write_columns as write-columns
 use Rattle.screen.proofs.write_totals as write-totals
 use Rattle.sheet.proofs.write_sheet as write-sheet
@@ -28,8 +31,8 @@ use Rattle.sheet.proofs.load_sheet as load-sheet
 use Rattle.promises.proofs.Proved as Proved
 use Rattle.promises.proofs.Proved.{Promised, promised-so}
 use Rattle.promises.proofs.Answers.{BlockAnswer, RecordingAnswer, ForgetAnswer, CopyAnswer, CountAnswer, read-block-answers, read-recording-answers, forget-key-answers, copy-out-answers, totals-answers}
-use Rattle.promises.proofs.Writing.{WriteAnswer, LoadAnswer, write-listing-answers, write-columns-answers, write-totals-answers, write-sheet-answers, write-air-answers, write-output-answers, load-sheet-answers}
--- what a refusal leaves: of 2 to 6 everything but the open lists, of every other everything; loading hands back the empty table; and
+use Rattle.promises.proofs.Writing.{WriteAnswer, LoadAnswer, write-listing-answers, write-confirmed-answers, write-columns-answers, write-totals-answers, write-sheet-answers, write-air-answers, write-output-answers, load-sheet-answers}
+-- what a refusal leaves: of 2 to 6 everything but the open lists and the count, of every other everything; loading hands back the empty table; and
 -- the place that a block's answer gives: that of the first fault within the class answered, or 0
 pub use Rattle.promises.proofs.Answers.{read-block-refused, read-block-place, read-block-no-place, read-recording-refused, forget-key-refused, copy-out-refused}
 pub use Rattle.promises.proofs.Buffers.{write-refused}
@@ -63,9 +66,14 @@ module _ {M : Type 1} where
       (λ κs a r z. WriteAnswer (λ c. listing c (a .1 .0)) (a .0) (now (a .1 .1 .0)) r (now (z .1 .1 .0))) M
   write-listing-ends = promised-so write-listing.ended _ _ _ (λ κs a r z. write-listing-answers (a .0) (a .1 .0) (now (a .1 .1 .0)) r (now (z .1 .1 .0))) Proved.write-listing-proved
 
+  pub write-confirmed-ends : Promised write-confirmed.ended write-confirmed.Symbol.routine
+      (λ κs a r z. WriteAnswer (λ c. confirmedListing c (a .1 .0)) (a .0) (now (a .1 .1 .0)) r (now (z .1 .1 .0))) M
+  write-confirmed-ends = promised-so write-confirmed.ended _ _ _ (λ κs a r z. write-confirmed-answers (a .0) (a .1 .0) (now (a .1 .1 .0)) r (now (z .1 .1 .0))) Proved.write-confirmed-proved
+
   pub write-columns-ends : Promised write-columns.ended write-columns.Symbol.routine
-      (λ κs a r z. WriteAnswer (columns (a .1 .0)) (a .0) (now (a .1 .1 .0)) r (now (z .1 .1 .0))) M
-  write-columns-ends = promised-so write-columns.ended _ _ _ (λ κs a r z. write-columns-answers (a .0) (a .1 .0) (now (a .1 .1 .0)) r (now (z .1 .1 .0))) Proved.write-columns-proved
+      (λ κs a r z. WriteAnswer (columns (a .1 .0) (a .1 .1 .0)) (a .0) (now (a .1 .1 .1 .0)) r (now (z .1 .1 .1 .0))) M
+  write-columns-ends =
+      promised-so write-columns.ended _ _ _ (λ κs a r z. write-columns-answers (a .0) (a .1 .0) (a .1 .1 .0) (now (a .1 .1 .1 .0)) r (now (z .1 .1 .1 .0))) Proved.write-columns-proved
 
   pub write-totals-ends : Promised write-totals.ended write-totals.Symbol.routine (λ κs a r z. WriteAnswer totalsText (a .0) (now (a .1 .0)) r (now (z .1 .0))) M
   write-totals-ends = promised-so write-totals.ended _ _ _ (λ κs a r z. write-totals-answers (a .0) (now (a .1 .0)) r (now (z .1 .0))) Proved.write-totals-proved

@@ -1,11 +1,11 @@
--- Better reception never contradicts worse (document 00, demand 3). Below, of calls, in order: the notes; what copy_out then gives; that
--- copy_out then gives a set.
-use Prim.Native.Nat.{ℕ, suc, _≤_}
-use mathlib.Core.Path.{_≡_}
+-- Better reception never contradicts worse (document 00, demand 3). Below, of calls, in order: the notes; what copy_out then gives, its
+-- number among it; that copy_out then gives a set.
+use Prim.Native.Nat.{ℕ, suc, _+_, _≤_, min}
+use mathlib.Core.Path.{_≡_, sym, ap, _∙_}
 use mathlib.Core.List.{List}
 use lib.ListN.{length, take, getElem?}
 use Rattle.rules.specs.Field.{Field, keyOf}
-use Rattle.rules.specs.Collecting.{Content, Shown, mostKeys, mostIds}
+use Rattle.rules.specs.Collecting.{Content, Shown, mostKeys, mostIds, mostBlocks}
 use Rattle.rules.specs.Outcomes.{numberOf}
 use Rattle.promises.specs.Demand3.{Operation, Worse, ShowsAt, keyCount}
 use Rattle.rules.proofs.Basics.{Every, every-take}
@@ -16,7 +16,8 @@ use Rattle.promises.proofs.Answers.{Stores}
 use Rattle.promises.proofs.Calls.{Reply, Calls, OfBytes, NotedShown, FieldAt, afterAll}
 use Rattle.promises.proofs.CallLaws.{copy-call, copy-shown, reply-shows, shows-reply}
 use Rattle.promises.proofs.Receptions.{shown-key, shows-cut, showing-after, same-operation, better-found}
-use Rattle.promises.proofs.Demand2.{calls-hold}
+use Rattle.promises.proofs.Numbers.{worse-counts}
+use Rattle.promises.proofs.Demand2.{calls-hold, calls-counted}
 -- the promise of the rules themselves; why it needs its premises is in Needed.antt
 pub use Rattle.promises.proofs.Better.{better-never-contradicts}
 
@@ -55,6 +56,19 @@ module _ (t : Table) (c : Content) (holds : Stores t c) (better worse : List Ope
       let shown = cut-shows t c holds worse others i j f ys n x in
       copy-call (keyOf f) (afterAll c (take (suc i) better)) (afterAll c (take (suc i) worse)) ns ks a b na ka nb kb (ends .0) (shown .0)
       (rw (shown .3) at (better-found c better worse (holds .0) lacks room i j (shown .1) (shown .2)))
+
+  -- And the number of the block among them: it is the same, also where the count has stopped, and so are both tables' own counts, for a
+  -- failing block is counted (document 02, R-9).
+  pub better-calls-confirmed : {u v : Table} {rs qs : List Reply} (i j : ℕ) (f : Field)
+      → Calls t (take (suc i) better) rs u → Calls t (take (suc i) worse) qs v → NotedShown qs i j → FieldAt worse i j f
+      → (ns ks : List ℕ) (a b : Copied) (na ka nb kb : List ℕ) → CopiesOut u (keyOf f) ns ks a na ka → CopiesOut v (keyOf f) ns ks b nb kb
+      → (a .confirmed ≡ b .confirmed) × (u .blocks ≡ v .blocks)
+  better-calls-confirmed {u = u} {v = v} i j f xs ys n x ns ks a b na ka nb kb p q = (
+    ap (λ (y : Copied). y .confirmed) (better-calls-copied i j f xs ys n x ns ks a b na ka nb kb p q .0),
+    calls-counted c holds (every-take OfBytes (suc i) better bytes) xs
+        ∙ ap (λ (k : ℕ). min (t .blocks + k) mostBlocks) (worse-counts (suc i) lacks)
+        ∙ sym (calls-counted c holds (every-take OfBytes (suc i) worse others) ys),
+  )
 
 -- These answers give sets, and are no refusals: let any reception be run up to operation i and with it. Where reply i has note 2 at place
 -- j, copying the key of that field out into buffers of at least 128 places has outcome 0.

@@ -19,7 +19,7 @@ use Rattle.rules.specs.Outcomes.{numberOf, verdict, readRecording, overwritten,
 use Rattle.rules.specs.Before.{beginsDab, metBefore, blockBefore, recordingBefore}
 use Rattle.rules.proofs.Basics.{cases-bool, true-false, Within, within-if}
 use Rattle.rules.proofs.FamilyLaws.{find-key, every-found}
-use Rattle.rules.proofs.TableRules.{lawful, SetMeets, EntryMeets, table-meets}
+use Rattle.rules.proofs.TableRules.{lawful, SetMeets, EntryMeets, table-meets, sets-meet}
 use Rattle.rules.proofs.Before.{begins-tuned, met-before, TunedIn, block-before, TunedBlocks, recording-before}
 use Rattle.layout.specs.Sheet.{sheet, justShown}
 use Rattle.layout.proofs.Laws.{load-written}
@@ -64,7 +64,7 @@ module _ (k : ℕ) (tuned : oeOf k ≡ 0) (ns ks : List ℕ) where
   pub copy-out-first : (t : Table) (r : Copied) (ms js : List ℕ) → CopiesOut t k ns ks r ms js → numberOf (r .outcome) ≡ 0 → getD js 0 rds ≡ dab
   unfolding copyOut copiedAs notCopied numberOf
   copy-out-first t r ms js (stored c m e a) z =
-      let entries = table-meets (c .sets) .0 m .entries in
+      let entries = table-meets (c .sets) .0 (sets-meet c m) .entries in
       let found = within-if (λ (x : Held). (x .key ≡ k) × EntryMeets x) (find linkage k (c .sets))
       (λ x h. (find-key linkage lawful k (c .sets) x h, subst (Within EntryMeets) h (every-found linkage EntryMeets k (c .sets) entries))) in
       ap (λ (x : Outcomes.Copied). getD (x .kinds) 0 rds) a

@@ -21,13 +21,14 @@ use Rattle.table.proofs.forget_key as forget-key
 use Rattle.table.proofs.copy_out as copy-out
 use Rattle.table.proofs.Table.totals as totals
 use Rattle.text.proofs.write_listing as write-listing
+use Rattle.text.proofs.write_confirmed as write-confirmed
 use Rattle.columns.proofs.write_columns as write-columns
 use Rattle.screen.proofs.write_totals as write-totals
 use Rattle.sheet.proofs.write_sheet as write-sheet
 use Rattle.air.proofs.write_air as write-air
 use Rattle.sheet.proofs.load_sheet as load-sheet
 use Rattle.outputs.proofs.write_output as write-output
-use Rattle.promises.proofs.Contracts.{ReadsBlock, ReadsRecording, Forgets, CopiesOut, Counts, WritesListing, WritesColumns, WritesTotals, WritesSheet, WritesAir, WritesOutput}
+use Rattle.promises.proofs.Contracts.{ReadsBlock, ReadsRecording, Forgets, CopiesOut, Counts, WritesListing, WritesConfirmed, WritesColumns, WritesTotals, WritesSheet, WritesAir, WritesOutput}
 
 -- this code, with nothing required of its caller, ends so that this holds of what it was passed, of what it returns and of its
 -- parameters at the end
@@ -75,8 +76,13 @@ pub write-listing-proved : {M : Type 1}
     → Promised write-listing.ended write-listing.Symbol.routine (λ κs a r z. WritesListing (a .0) (a .1 .0) (now (a .1 .1 .0)) r (now (z .1 .1 .0))) M
 write-listing-proved = write-listing.Met.met
 
+pub write-confirmed-proved : {M : Type 1}
+    → Promised write-confirmed.ended write-confirmed.Symbol.routine (λ κs a r z. WritesConfirmed (a .0) (a .1 .0) (now (a .1 .1 .0)) r (now (z .1 .1 .0))) M
+write-confirmed-proved = write-confirmed.Met.met
+
 pub write-columns-proved : {M : Type 1}
-    → Promised write-columns.ended write-columns.Symbol.routine (λ κs a r z. WritesColumns (a .0) (a .1 .0) (now (a .1 .1 .0)) r (now (z .1 .1 .0))) M
+    → Promised write-columns.ended write-columns.Symbol.routine
+    (λ κs a r z. WritesColumns (a .0) (a .1 .0) (a .1 .1 .0) (now (a .1 .1 .1 .0)) r (now (z .1 .1 .1 .0))) M
 write-columns-proved = write-columns.Met.met
 
 pub write-totals-proved : {M : Type 1}

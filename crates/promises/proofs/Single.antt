@@ -1,6 +1,6 @@
 -- A contract admits a single answer. In order: an equation; a run of stores; a given table (`given-single`), by it reading a
 -- block, a recording, forgetting, copying out with both buffers, the totals; an output with its buffer (`write-single`), by it the
--- listing, the columns, the totals as a line, the sheet and the blocks for air; loading a sheet; a test.
+-- listing with numbers and without, the columns, the totals as a line, the sheet and the blocks for air; loading a sheet; a test.
 use Prim.Native.Nat.{ℕ}
 use mathlib.Core.Path.{_≡_, refl, sym, ap, _∙_}
 use mathlib.Core.Bool.{Bool, true, false}
@@ -14,6 +14,7 @@ use Rattle.out.specs.Writing.{writtenTo}
 use Rattle.out.specs.Writing as Writing
 use Rattle.layout.specs.Sheet.{sheet}
 use Rattle.text.specs.Listing.{listing}
+use Rattle.text.specs.Confirmed.{confirmedListing}
 use Rattle.screen.specs.Screen.{totalsText}
 use Rattle.totals.specs.Totals.{totalsOf}
 use Rattle.layout.proofs.Laws.{load-single}
@@ -36,7 +37,7 @@ use Rattle.sheet.specs.Loading.{Loads}
 use Rattle.columns.specs.Columns.{columns}
 use Rattle.outputs.specs.declared.Output.{Output}
 use Rattle.outputs.specs.Output.{outputOf}
-use Rattle.promises.proofs.Contracts.{ReadsBlock, ReadsRecording, Forgets, CopiesOut, Counts, WritesListing, WritesColumns, WritesTotals, WritesSheet, WritesAir, WritesOutput}
+use Rattle.promises.proofs.Contracts.{ReadsBlock, ReadsRecording, Forgets, CopiesOut, Counts, WritesListing, WritesConfirmed, WritesColumns, WritesTotals, WritesSheet, WritesAir, WritesOutput}
 
 -- a result that an equation says
 pub equal-single : {A : Type 0} {x y z : A} → x ≡ z → y ≡ z → x ≡ y
@@ -94,9 +95,13 @@ pub write-listing-single : (t : Table) (over : ℕ) (old : List ℕ) (r q : Writ
     → WritesListing t over old r new → WritesListing t over old q other → (r ≡ q) × (new ≡ other)
 write-listing-single t over = write-single (λ c. listing c over) t
 
-pub write-columns-single : (t : Table) (csv : Bool) (old : List ℕ) (r q : Written) (new other : List ℕ)
-    → WritesColumns t csv old r new → WritesColumns t csv old q other → (r ≡ q) × (new ≡ other)
-write-columns-single t csv = write-single (columns csv) t
+pub write-confirmed-single : (t : Table) (over : ℕ) (old : List ℕ) (r q : Written) (new other : List ℕ)
+    → WritesConfirmed t over old r new → WritesConfirmed t over old q other → (r ≡ q) × (new ≡ other)
+write-confirmed-single t over = write-single (λ c. confirmedListing c over) t
+
+pub write-columns-single : (t : Table) (csv numbered : Bool) (old : List ℕ) (r q : Written) (new other : List ℕ)
+    → WritesColumns t csv numbered old r new → WritesColumns t csv numbered old q other → (r ≡ q) × (new ≡ other)
+write-columns-single t csv numbered = write-single (columns csv numbered) t
 
 pub write-totals-single : (t : Table) (old : List ℕ) (r q : Written) (new other : List ℕ)
     → WritesTotals t old r new → WritesTotals t old q other → (r ≡ q) × (new ≡ other)

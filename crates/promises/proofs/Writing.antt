@@ -1,5 +1,5 @@
 -- What writes an output of a table into a lent buffer has a numbered outcome, and every refusal leaves the buffer as it was
--- (document 01, demand 1): one law over the output; by it the listing, the columns, the totals, the sheet and the blocks for air. Last,
+-- (document 01, demand 1): one law over the output; by it the listing with numbers and without, the columns, the totals, the sheet and the blocks for air. Last,
 -- loading a sheet. What follows from these answers is in Buffers.antt, AirWritten.antt and SheetWritten.antt.
 use Prim.Native.Nat.{ℕ, _≤_, _<_}
 use mathlib.Core.Path.{_≡_, ap, _∙_}
@@ -17,6 +17,7 @@ use Rattle.out.specs.Writing.{writtenTo}
 use Rattle.out.specs.Writing as Writing
 use Rattle.layout.specs.Sheet.{sheet, justShown, Load, accepted, notASheet}
 use Rattle.text.specs.Listing.{listing}
+use Rattle.text.specs.Confirmed.{confirmedListing}
 use Rattle.screen.specs.Screen.{totalsText}
 use Rattle.rules.proofs.Basics.{cases-bool}
 use Rattle.table.specs.declared.Table.{Table}
@@ -28,7 +29,7 @@ use Rattle.sheet.specs.Loading.{Loads}
 use Rattle.columns.specs.Columns.{columns}
 use Rattle.outputs.specs.declared.Output.{Output}
 use Rattle.outputs.specs.Output.{outputOf}
-use Rattle.promises.proofs.Contracts.{WritesListing, WritesColumns, WritesTotals, WritesSheet, WritesAir, WritesOutput}
+use Rattle.promises.proofs.Contracts.{WritesListing, WritesConfirmed, WritesColumns, WritesTotals, WritesSheet, WritesAir, WritesOutput}
 
 -- the parts of an answer and its buffer
 pub written-is : (r : Written) (new : List ℕ) (o : Outcome) (n : ℕ) (b : List ℕ) → writtenAs r new ≡ record { outcome = o; size = n; buffer = b }
@@ -62,9 +63,13 @@ pub write-listing-answers : (t : Table) (over : ℕ) (old : List ℕ) (r : Writt
     → WritesListing t over old r new → WriteAnswer (λ c. listing c over) t old r new
 write-listing-answers t over = write-answers (λ c. listing c over) t
 
-pub write-columns-answers : (t : Table) (csv : Bool) (old : List ℕ) (r : Written) (new : List ℕ)
-    → WritesColumns t csv old r new → WriteAnswer (columns csv) t old r new
-write-columns-answers t csv = write-answers (columns csv) t
+pub write-confirmed-answers : (t : Table) (over : ℕ) (old : List ℕ) (r : Written) (new : List ℕ)
+    → WritesConfirmed t over old r new → WriteAnswer (λ c. confirmedListing c over) t old r new
+write-confirmed-answers t over = write-answers (λ c. confirmedListing c over) t
+
+pub write-columns-answers : (t : Table) (csv numbered : Bool) (old : List ℕ) (r : Written) (new : List ℕ)
+    → WritesColumns t csv numbered old r new → WriteAnswer (columns csv numbered) t old r new
+write-columns-answers t csv numbered = write-answers (columns csv numbered) t
 
 pub write-totals-answers : (t : Table) (old : List ℕ) (r : Written) (new : List ℕ) → WritesTotals t old r new → WriteAnswer totalsText t old r new
 write-totals-answers = write-answers totalsText
