@@ -37,21 +37,39 @@ pub(crate) fn tell(words: &[u8]) {
 
 // ---- what goes with what
 
+// The form in which the sets of a recording are listed: in columns they have their numbers.
+fn list_form(options: Options) -> Output {
+    if options.confirmed {
+        return Output::Confirmed;
+    }
+    if options.table {
+        return Output::Columns;
+    }
+    if options.csv {
+        return Output::Spreadsheet;
+    }
+    Output::Lines
+}
+
+// The form in which those of a sheet are, which has no numbers.
+fn show_form(options: Options) -> Output {
+    if options.table {
+        return Output::SheetColumns;
+    }
+    if options.csv {
+        return Output::SheetSpreadsheet;
+    }
+    Output::Lines
+}
+
 // What an action makes: `list` and `show` make what the options say.
 fn asked_for(action: Action, options: Options) -> Output {
     match action {
         Action::Sheet => Output::Sheet,
         Action::Air => Output::Blocks,
         Action::Totals => Output::Totals,
-        _ => {
-            if options.table {
-                return Output::Columns;
-            }
-            if options.csv {
-                return Output::Spreadsheet;
-            }
-            Output::Lines
-        }
+        Action::Show => show_form(options),
+        _ => list_form(options),
     }
 }
 
@@ -156,6 +174,31 @@ fn perform(action: Action, options: Options) -> bool {
     carry_out(action, options, source, name, target, &path)
 }
 
+// Whether an action lists the sets of a recording.
+fn lists_recording(action: Action) -> bool {
+    match action {
+        Action::List => true,
+        _ => false,
+    }
+}
+
+// Whether the forms that are asked for go with the action; it says what does not.
+fn forms_fit(action: Action, options: Options) -> bool {
+    if !lists_sets(action) && options.table {
+        say(b"--table goes with list and show", b"", b"");
+        return false;
+    }
+    if !lists_sets(action) && options.csv {
+        say(b"--csv goes with list and show", b"", b"");
+        return false;
+    }
+    if !lists_recording(action) && options.confirmed {
+        say(b"--confirmed goes with list", b"", b"");
+        return false;
+    }
+    true
+}
+
 // Whether the options go with the action; it says what does not.
 fn go_together(action: Action, options: Options, word: &[u8]) -> bool {
     if wants_output(action) && options.output == 0 {
@@ -170,15 +213,7 @@ fn go_together(action: Action, options: Options, word: &[u8]) -> bool {
         say(b"-f goes with sheet and air", b"", b"");
         return false;
     }
-    if !lists_sets(action) && options.table {
-        say(b"--table goes with list and show", b"", b"");
-        return false;
-    }
-    if !lists_sets(action) && options.csv {
-        say(b"--csv goes with list and show", b"", b"");
-        return false;
-    }
-    true
+    forms_fit(action, options)
 }
 
 // The text of `help`, to standard output.

@@ -40,7 +40,8 @@ pub(crate) fn write_help(file: i32) -> bool {
     io::write_all(
         file,
         b"\
-linkage list [RECORDING] [--table | --csv]   the linkage sets of a recording
+linkage list [RECORDING] [--confirmed | --table | --csv]
+                                             the linkage sets of a recording
 linkage sheet [RECORDING] -o SHEET [-f]      the stored sheet of a recording
 linkage show [SHEET] [--table | --csv]       the linkage sets of a sheet
 linkage air [SHEET] -o BLOCKS [-f]           a sheet as blocks for air
@@ -50,6 +51,7 @@ linkage totals [RECORDING]                   how many sets are shown, how many o
 linkage help | --version                     this text; the version
 
 A file that is left out, or '-', is standard input; '-o -' is standard output. -f overwrites an existing file.
+--confirmed adds to each set the number of the block at which it was last shown, after '#'; blocks count from 1.
 --table prints columns for eyes, --csv the same for a spreadsheet: DAB services, FM (RDS) codes, DRM or AMSS apart.
 After '--' every word is a file's name. The status is 0 where all was done, and else 1.
 Example: linkage list examples/swiss-4001-regional.fib --table

@@ -20,6 +20,7 @@ pub(crate) enum Action {
 // next word is the output's name, `plain` that every further word is a file's. `fault` is the first thing wrong, and `at` the
 // place of its word.
 pub(crate) struct Options {
+    pub confirmed: bool,
     pub table: bool,
     pub csv: bool,
     pub force: bool,
@@ -97,6 +98,7 @@ impl Options {
     // Nothing asked for yet.
     fn none() -> Options {
         Options {
+            confirmed: false,
             table: false,
             csv: false,
             force: false,
@@ -138,6 +140,10 @@ impl Options {
 
     fn with_option(self, i: usize, word: &[u8]) -> Options {
         let mut next = self;
+        if same(word, b"--confirmed") {
+            next.confirmed = true;
+            return next;
+        }
         if same(word, b"--table") {
             next.table = true;
             return next;
@@ -192,6 +198,14 @@ impl Options {
         self.with_word(i, &word[..n])
     }
 
+    // Whether two of the forms are asked for, of which there can be one.
+    fn has_two_forms(self) -> bool {
+        if self.table && self.csv {
+            return true;
+        }
+        self.confirmed && (self.table || self.csv)
+    }
+
     // After the last word.
     fn ended(self) -> Options {
         if self.fault != NO_FAULT {
@@ -200,7 +214,7 @@ impl Options {
         if self.wants {
             return self.with_fault(NO_OUTPUT_NAME, 0);
         }
-        if self.table && self.csv {
+        if self.has_two_forms() {
             return self.with_fault(BOTH_FORMS, 0);
         }
         self
@@ -235,7 +249,7 @@ fn explain(fault: u8, word: &[u8]) {
     } else if fault == NO_OUTPUT_NAME {
         say(b"-o wants a file's name", b"", b"");
     } else {
-        say(b"--table or --csv, not both", b"", b"");
+        say(b"--confirmed, --table or --csv: only one of them", b"", b"");
     }
 }
 

@@ -47,16 +47,24 @@ fn say_unwritten(outcome: Outcome) {
     }
 }
 
+// Says that no set is shown in so many blocks, how many of them were refused, if any, and why that may be.
+fn say_unshown(blocks: usize, refused: usize) {
+    say_number(b"no set is shown in ", blocks, b" blocks");
+    if refused != 0 {
+        say_number(b"refused blocks: ", refused, b"; 'check' tells which");
+    }
+    say(
+        b"a set is shown when the next start of its list has come; a refused block drops open lists. 'figs' tells what the blocks hold",
+        b"",
+        b"",
+    );
+}
+
 // What is worth knowing of a recording whose blocks are good, beside what is listed: that no set is shown, that the table is full.
-fn remark_table(table: Table, blocks: usize) {
+fn remark_table(table: Table, blocks: usize, refused: usize) {
     let sets = table.sets;
     if sets.shown_count() == 0 {
-        say_number(b"no set is shown in ", blocks, b" blocks");
-        say(
-            b"a set is shown when the next start of its list has come; a refused block drops open lists. 'figs' tells what the blocks hold",
-            b"",
-            b"",
-        );
+        say_unshown(blocks, refused);
     }
     if sets.count == Table::KEYS {
         say(
@@ -102,7 +110,7 @@ fn remark(received: Received) {
     remark_blocks(received.size, received.good);
     if received.good {
         let table = received.table;
-        remark_table(table, received.size / 32);
+        remark_table(table, received.size / 32, received.refused);
     }
 }
 
@@ -110,7 +118,7 @@ fn remark(received: Received) {
 fn hand_over(asked: Output, table: Table, rest: usize, target: Target, path: &[u8]) -> bool
     requires { ⌜ Holding table rest ⌝ }
 {
-    let mut made = [0u8; 206000];
+    let mut made = [0u8; 264000];
     let written = write_output(asked, table, rest, &mut made);
     let outcome = written.outcome;
     let Outcome::Done = outcome else {

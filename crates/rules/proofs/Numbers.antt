@@ -1,4 +1,4 @@
--- The laws of numbers (document 02, R-9). In this order: what a field does, apart from stamps, does not depend on them; so fields, refused
+-- The laws of numbers (document 02, R-9). In this order: what the rule of a number says; what a field does, apart from stamps, does not depend on them; so fields, refused
 -- blocks and forgettings; what linkage reads, apart from numbers, is what it read before; where a shown set and its stamp are from, after
 -- fields, after an operation, and after a reception.
 use Prim.Native.Nat.{ℕ, zero, suc, _/_, _<_}
@@ -11,18 +11,26 @@ use mathlib.Core.List.{List, [], _∷_, map}
 use mathlib.Core.Option.{Option, none, some, Option·map}
 use lib.ListN.{length, take, drop, getElem?, length-map}
 use lib.Dec.{leb, ltb}
+use borrow.Author.Tests.{eqb-true}
 use Rattle.rules.specs.declared.Note.{Note}
 use Rattle.rules.specs.declared.Note.the-variants.{ShownAndOpened}
 use Rattle.rules.specs.Family.{Family, Listed, Act, start, continuation, noList, drops, Said, Entry, extended, entryWith, started, continued, onHeld, fresh, onUnheld, kept, effect, find, replace, insert, store, step, steps, closed, dropOpen, forget}
 use Rattle.rules.specs.Receptions.{heldKeys, Shows, ShowsIn, Op, takes, refuses, ignores, forgets, afterOp, saidIn, ShowsRun}
 use Rattle.rules.specs.Field.{Field}
-use Rattle.rules.specs.Collecting.{linkage, Entries, Content, nextBlock, said, showing, shownSets}
+use Rattle.rules.specs.Collecting.{linkage, Entries, Content, nextBlock, said, numberMeets, showing, shownSets}
 use Rattle.rules.specs.Outcomes.{Verdict, taken, refused, noBlock, verdict, answerTo, readBlock, readBlocks, readRecording}
 use Rattle.rules.specs.Numbers.{fieldAt, Later, LastShown, earlier, shown, bare, bareSaid, plainAfter, plainBlocks, plainRecording}
 use Rattle.rules.proofs.Basics.{cases-bool, cases-option, true-false, none-some}
 use Rattle.rules.proofs.FamilyLaws.{Lawful, Ascends, note-step, find-key, find-step, find-step-own, find-drop, find-forget}
 use Rattle.rules.proofs.Runs.{run, ascends-op}
 use Rattle.rules.proofs.HeldKeys.{shows-key}
+
+-- ---- what the rule of a number says
+
+-- where no set is shown, it is 0
+pub unshown-number : (n : ℕ) → numberMeets none n ≡ true → n ≡ 0
+unfolding numberMeets
+unshown-number n h = eqb-true n 0 h
 
 -- ---- apart from stamps
 

@@ -14,6 +14,7 @@ use Rattle.rules.specs.Collecting.{IdSet, Held, Entries, isKey, numberMeets, se
 use Rattle.rules.proofs.Basics.{cases-bool, and-left, and-right}
 use Rattle.rules.proofs.Arrays.{take-padded, drop-padded, getD-past, same-padded, same-from, tabulate, length-tabulate, map-tabulate}
 use Rattle.rules.proofs.Entries.{column-at}
+use Rattle.rules.proofs.Numbers.{unshown-number}
 use Rattle.rules.proofs.TableRules.{entry-rules, TableRules, table-rules}
 use Rattle.lists.specs.declared.IdList.{IdList}
 use Rattle.lists.specs.Stored.{emptyList, storeMaybe, allZero, Holds}
@@ -89,8 +90,7 @@ draft-holds e m = (e .draft, entry-rules e .0 m .draft, refl)
 
 -- a number beside each list
 unshown : (k : ℕ) (o : Option IdSet) (n : ℕ) → ifThere k o ≡ true → numberMeets o n ≡ true → storeMaybe o .len ≡ 0 → n ≡ 0
-unfolding numberMeets
-unshown k none n a b c = eqb-true n 0 b
+unshown k none n a b c = unshown-number n b
 unshown k (some l) n a b c = absurd (stored-some k l a c)
 
 no-number : (e : Held) → entryMeets e ≡ true → shownIn e .len ≡ 0 → confirmedIn e ≡ 0
