@@ -1,13 +1,16 @@
 // The sets of a table in columns (specs/Columns.antt), over a lent buffer, in two forms: `csv` for a
-// spreadsheet, else for eyes. A row has one code. Every function is proved; the one that is `pub` has
-// no `requires`, refuses a buffer that is too short, and else writes the text at its front.
+// spreadsheet, else for eyes; `numbered` with the numbers of blocks in a last column (document 02, R-9),
+// else without. A row has one code. Every function is proved; the one that is `pub` has no `requires`,
+// refuses a buffer that is too short, and else writes the text at its front.
 use lists::IdList;
 use lists::is_dead;
 use lists::least;
 use lists::width_of;
 use out::Written;
+use out::decimal_size;
 use out::put;
 use out::put_bytes;
+use out::put_decimal;
 use out::put_hex;
 use rules::Outcome;
 use sets::Sets;
@@ -23,9 +26,19 @@ ghost use Rattle.text.specs.Listing.{stateText};
 ghost use Rattle.lists.specs.Stored.{pairsIn};
 ghost use Rattle.out.specs.Put.{Puts};
 ghost use Rattle.out.specs.Answer.{Outputs};
-ghost use Rattle.sets.specs.Shown.{shownAs, setsIn};
-ghost use Rattle.columns.specs.Columns.{blank, rowOf, codeRows, deadRows, rowsOf, filled, gap, codeText, cellText, rowText, rowsText, ruleText, headingText, setsText, columns};
-ghost use Rattle.columns.specs.Cells.{cellOf};
+ghost use Rattle.sets.specs.Shown.{shownAs, confirmedSetsIn};
+ghost use Rattle.columns.specs.Columns.{blank, numberIf, rowOf, codeRows, deadRows, rowsOf, filled, gap, endText, codeText, cellText, numberText, rowText, rowsText, lineWidth, ruleText, namesText, lastName, headingText, setsText, columns};
+ghost use Rattle.columns.specs.Cells.{cellOf, numberIn, rowSize};
+
+// What the rows of a set have in common: their form, whether they are numbered, and the set's key, its on
+// or off and its number.
+struct Rows {
+    csv: bool,
+    numbered: bool,
+    key: u32,
+    on: bool,
+    block: u32,
+}
 
 // ---- the parts of a line
 
@@ -112,6 +125,34 @@ fn put_cell(
     put_fill(out, p, csv, 9 - least(9, digits))
 }
 
+// The end of a row at a place: the number up to the column's width where rows are numbered, and the end of
+// the line.
+fn put_end(out: &mut [u8], at: usize, csv: bool, numbered: bool, block: u32) -> usize
+    ensures { λ r. ⌜ Puts (now (out .entry)) at (endText csv (numberText (numberIf numbered block))) (now (out .exit)) r ⌝ }
+{
+    if !numbered {
+        return put(out, at, 10);
+    }
+    let n = block as usize;
+    let p = put_gap(out, at, csv);
+    let q = put_decimal(out, p, n);
+    let r = put_fill(out, q, csv, 10 - least(10, decimal_size(n)));
+    put(out, r, 10)
+}
+
+// The size of that.
+fn end_size(csv: bool, numbered: bool, block: u32) -> usize
+    ensures { λ r. ⌜ (r ≡ length (endText csv (numberText (numberIf numbered block)))) × (r ≤ 14) ⌝ }
+{
+    if !numbered {
+        1
+    } else if csv {
+        2 + decimal_size(block as usize)
+    } else {
+        14
+    }
+}
+
 // ---- a row
 
 // The row of a set up to its three cells, at a place.
@@ -125,95 +166,79 @@ fn put_head(out: &mut [u8], at: usize, csv: bool, key: u32, on: bool) -> usize
 }
 
 // A row at a place, with a code of this kind, or with its dead link.
-fn put_row(
-    out: &mut [u8],
-    at: usize,
-    csv: bool,
-    key: u32,
-    on: bool,
-    kind: u8,
-    gone: bool,
-    n: u32,
-) -> usize
-    ensures { λ r. ⌜ Puts (now (out .entry)) at (rowText csv (rowOf key on kind (cellOf gone (2 * keyWidth key) n))) (now (out .exit)) r ⌝ }
+fn put_row(out: &mut [u8], at: usize, rows: Rows, kind: u8, gone: bool, n: u32) -> usize
+    ensures { λ r. ⌜ Puts (now (out .entry)) at (rowText (rows .csv) (rowOf (rows .key) (rows .on) (numberIn rows) kind (cellOf gone (2 * keyWidth (rows .key)) n))) (now (out .exit)) r ⌝ }
 {
-    let digits = 2 * width_of(key);
-    let p = put_head(out, at, csv, key, on);
+    let csv = rows.csv;
+    let digits = 2 * width_of(rows.key);
+    let p = put_head(out, at, csv, rows.key, rows.on);
     let q = put_cell(out, p, csv, kind == rules::DAB, gone, digits, n);
     let r = put_gap(out, q, csv);
     let s = put_cell(out, r, csv, kind == rules::RDS, gone, digits, n);
     let t = put_gap(out, s, csv);
     let u = put_cell(out, t, csv, kind > 1, gone, digits, n);
-    put(out, u, 10)
+    put_end(out, u, csv, rows.numbered, rows.block)
 }
 
 // The size of a row whose cell has this many bytes where nothing is filled up.
-fn row_size(csv: bool, on: bool, cell: usize) -> usize
+fn row_size(rows: Rows, cell: usize) -> usize
     requires { ⌜ cell ≤ 10 ⌝ }
-    ensures { λ r. ⌜ (r ≡ cond csv (11 + length (stateText on) + cell) 49) × (r ≤ 49) ⌝ }
+    ensures { λ r. ⌜ (r ≡ rowSize (rows .csv) (rows .on) (numberIn rows) cell) × (r ≤ 62) ⌝ }
 {
-    if !csv {
-        49
-    } else if on {
-        13 + cell
+    let end = end_size(rows.csv, rows.numbered, rows.block);
+    if !rows.csv {
+        48 + end
+    } else if rows.on {
+        12 + cell + end
     } else {
-        14 + cell
+        13 + cell + end
     }
 }
 
 // ---- the rows of a set
 
 // The rows of its identifiers at a place.
-fn put_codes(out: &mut [u8], at: usize, csv: bool, key: u32, on: bool, list: IdList) -> usize
-    ensures { λ r. ⌜ Puts (now (out .entry)) at (rowsText csv (codeRows (shownAs key on list) (pairsIn (list .kinds) (list .numbers) (list .len)))) (now (out .exit)) r ⌝ }
+fn put_codes(out: &mut [u8], at: usize, rows: Rows, list: IdList) -> usize
+    ensures { λ r. ⌜ Puts (now (out .entry)) at (rowsText (rows .csv) (codeRows (numberIn rows) (shownAs (rows .key) (rows .on) list) (pairsIn (list .kinds) (list .numbers) (list .len)))) (now (out .exit)) r ⌝ }
 {
     let end = least(list.len, IdList::MOST);
     let mut p = least(at, out.len());
     let mut j = 0;
     while j < end {
-        p = put_row(out, p, csv, key, on, list.kinds[j], false, list.numbers[j]);
+        p = put_row(out, p, rows, list.kinds[j], false, list.numbers[j]);
         j += 1;
     }
     p
 }
 
-// The size of the rows of this many identifiers of a key.
-fn codes_size(csv: bool, key: u32, on: bool, n: usize) -> usize
+// The size of the rows of this many identifiers.
+fn codes_size(rows: Rows, n: usize) -> usize
     requires { ⌜ n ≤ mostIds ⌝ }
-    ensures { λ r. ⌜ (r ≡ n * cond csv (13 + length (stateText on) + 2 * keyWidth key) 49) × (r ≤ 6272) ⌝ }
+    ensures { λ r. ⌜ (r ≡ n * rowSize (rows .csv) (rows .on) (numberIn rows) (2 + 2 * keyWidth (rows .key))) × (r ≤ 7936) ⌝ }
 {
-    n * row_size(csv, on, 2 + 2 * width_of(key))
+    n * row_size(rows, 2 + 2 * width_of(rows.key))
 }
 
 // The row of a kind, named or not, at a place: a dead link where it is a named kind without identifiers,
 // nothing of another.
-fn put_dead(
-    out: &mut [u8],
-    at: usize,
-    csv: bool,
-    key: u32,
-    on: bool,
-    kind: u8,
-    named: bool,
-    list: IdList,
-) -> usize
-    ensures { λ r. ⌜ Puts (now (out .entry)) at (rowsText csv (deadRows (shownAs key on list) kind named)) (now (out .exit)) r ⌝ }
+fn put_dead(out: &mut [u8], at: usize, rows: Rows, kind: u8, named: bool, list: IdList) -> usize
+    ensures { λ r. ⌜ Puts (now (out .entry)) at (rowsText (rows .csv) (deadRows (numberIn rows) (shownAs (rows .key) (rows .on) list) kind named)) (now (out .exit)) r ⌝ }
 {
     let len = list.len;
     if is_dead(kind, named, &list.numbers, &list.kinds, len) {
-        put_row(out, at, csv, key, on, kind, true, 0)
+        put_row(out, at, rows, kind, true, 0)
     } else {
         least(at, out.len())
     }
 }
 
 // The size of that.
-fn dead_size(csv: bool, on: bool, kind: u8, named: bool, list: IdList) -> usize
-    ensures { λ r. ⌜ (r ≡ cond (isDead kind named (pairsIn (list .kinds) (list .numbers) (list .len))) (cond csv (20 + length (stateText on)) 49) 0) × (r ≤ 49) ⌝ }
+fn dead_size(rows: Rows, kind: u8, named: bool, list: IdList) -> usize
+    ensures { λ r. ⌜ (r ≡ cond (isDead kind named (pairsIn (list .kinds) (list .numbers) (list .len))) (rowSize (rows .csv) (rows .on) (numberIn rows) 9) 0) × (r ≤ 62) ⌝ }
 {
     let len = list.len;
     if is_dead(kind, named, &list.numbers, &list.kinds, len) {
-        row_size(csv, on, 9)
+        row_size(rows, 9)
     } else {
         0
     }
@@ -221,85 +246,131 @@ fn dead_size(csv: bool, on: bool, kind: u8, named: bool, list: IdList) -> usize
 
 // ---- a set
 
+// How many places a line has for eyes.
+fn line_width(numbered: bool) -> usize
+    ensures { λ r. ⌜ r ≡ lineWidth numbered ⌝ }
+{
+    if numbered { 61 } else { 48 }
+}
+
 // The line of dashes at a place, for eyes; nothing for a spreadsheet.
-fn put_rule(out: &mut [u8], at: usize, csv: bool) -> usize
-    ensures { λ r. ⌜ Puts (now (out .entry)) at (ruleText csv) (now (out .exit)) r ⌝ }
+fn put_rule(out: &mut [u8], at: usize, csv: bool, numbered: bool) -> usize
+    ensures { λ r. ⌜ Puts (now (out .entry)) at (ruleText csv numbered) (now (out .exit)) r ⌝ }
 {
     if csv {
         least(at, out.len())
     } else {
-        let p = put_same(out, at, 48, 45);
+        let p = put_same(out, at, line_width(numbered), 45);
         put(out, p, 10)
     }
 }
 
 // The size of that.
-fn rule_size(csv: bool) -> usize
-    ensures { λ r. ⌜ (r ≡ length (ruleText csv)) × (r ≤ 49) ⌝ }
+fn rule_size(csv: bool, numbered: bool) -> usize
+    ensures { λ r. ⌜ (r ≡ length (ruleText csv numbered)) × (r ≤ 62) ⌝ }
 {
-    if csv { 0 } else { 49 }
+    if csv { 0 } else { line_width(numbered) + 1 }
 }
 
 // A set at a place.
-fn put_set(out: &mut [u8], at: usize, csv: bool, key: u32, on: bool, list: IdList) -> usize
-    ensures { λ r. ⌜ Puts (now (out .entry)) at (rowsText csv (rowsOf (shownAs key on list)) ++ ruleText csv) (now (out .exit)) r ⌝ }
+fn put_set(out: &mut [u8], at: usize, rows: Rows, list: IdList) -> usize
+    ensures { λ r. ⌜ Puts (now (out .entry)) at (rowsText (rows .csv) (rowsOf (numberIn rows) (shownAs (rows .key) (rows .on) list)) ++ ruleText (rows .csv) (rows .numbered)) (now (out .exit)) r ⌝ }
 {
     let rds = list.named % 2 == 1;
     let drm = list.named / 2 == 1;
-    let p = put_codes(out, at, csv, key, on, list);
-    let q = put_dead(out, p, csv, key, on, rules::RDS, rds, list);
-    let r = put_dead(out, q, csv, key, on, rules::DRM, drm, list);
-    put_rule(out, r, csv)
+    let p = put_codes(out, at, rows, list);
+    let q = put_dead(out, p, rows, rules::RDS, rds, list);
+    let r = put_dead(out, q, rows, rules::DRM, drm, list);
+    put_rule(out, r, rows.csv, rows.numbered)
 }
 
 // The size of a set.
-fn set_size(csv: bool, key: u32, on: bool, list: IdList) -> usize
-    ensures { λ r. ⌜ (r ≡ length (rowsText csv (rowsOf (shownAs key on list)) ++ ruleText csv)) × (r ≤ 6419) ⌝ }
+fn set_size(rows: Rows, list: IdList) -> usize
+    ensures { λ r. ⌜ (r ≡ length (rowsText (rows .csv) (rowsOf (numberIn rows) (shownAs (rows .key) (rows .on) list)) ++ ruleText (rows .csv) (rows .numbered))) × (r ≤ 8122) ⌝ }
 {
     let rds = list.named % 2 == 1;
     let drm = list.named / 2 == 1;
-    let codes = codes_size(csv, key, on, least(list.len, IdList::MOST));
-    let r = dead_size(csv, on, rules::RDS, rds, list);
-    let m = dead_size(csv, on, rules::DRM, drm, list);
-    codes + r + m + rule_size(csv)
+    let codes = codes_size(rows, least(list.len, IdList::MOST));
+    let r = dead_size(rows, rules::RDS, rds, list);
+    let m = dead_size(rows, rules::DRM, drm, list);
+    codes + r + m + rule_size(rows.csv, rows.numbered)
 }
 
 // ---- the whole
 
-// The heading at a place, with the line under it.
-fn put_heading(out: &mut [u8], at: usize, csv: bool) -> usize
-    ensures { λ r. ⌜ Puts (now (out .entry)) at (headingText csv ++ ruleText csv) (now (out .exit)) r ⌝ }
+// The names of the first five columns at a place.
+fn put_names(out: &mut [u8], at: usize, csv: bool) -> usize
+    ensures { λ r. ⌜ Puts (now (out .entry)) at (namesText csv) (now (out .exit)) r ⌝ }
 {
     if csv {
-        put_bytes(out, at, b"set,state,DAB,FM (RDS),DRM/AMSS\n")
+        put_bytes(out, at, b"set,state,DAB,FM (RDS),DRM/AMSS")
     } else {
-        let p = put_bytes(
+        put_bytes(
             out,
             at,
-            b"set  | state | DAB       | FM (RDS)  | DRM/AMSS \n",
-        );
-        put_rule(out, p, csv)
+            b"set  | state | DAB       | FM (RDS)  | DRM/AMSS ",
+        )
     }
 }
 
-// The size of that.
-fn heading_size(csv: bool) -> usize
-    ensures { λ r. ⌜ (r ≡ length (headingText csv ++ ruleText csv)) × (r ≤ 98) ⌝ }
+// The end of the heading at a place: the name of the last column where rows are numbered, and the end of
+// the line.
+fn put_last(out: &mut [u8], at: usize, csv: bool, numbered: bool) -> usize
+    ensures { λ r. ⌜ Puts (now (out .entry)) at (endText csv (lastName numbered)) (now (out .exit)) r ⌝ }
 {
-    if csv { 32 } else { 98 }
+    if !numbered {
+        return put(out, at, 10);
+    }
+    if csv {
+        put_bytes(out, at, b",block\n")
+    } else {
+        put_bytes(out, at, b" | block     \n")
+    }
+}
+
+// The heading at a place, with the line under it.
+fn put_heading(out: &mut [u8], at: usize, csv: bool, numbered: bool) -> usize
+    ensures { λ r. ⌜ Puts (now (out .entry)) at (headingText csv numbered ++ ruleText csv numbered) (now (out .exit)) r ⌝ }
+{
+    let p = put_names(out, at, csv);
+    let q = put_last(out, p, csv, numbered);
+    put_rule(out, q, csv, numbered)
+}
+
+// The size of that.
+fn heading_size(csv: bool, numbered: bool) -> usize
+    ensures { λ r. ⌜ (r ≡ length (headingText csv numbered ++ ruleText csv numbered)) × (r ≤ 124) ⌝ }
+{
+    if !csv {
+        2 * (line_width(numbered) + 1)
+    } else if numbered {
+        38
+    } else {
+        32
+    }
 }
 
 // The sets at a place.
-fn put_sets(out: &mut [u8], at: usize, csv: bool, sets: Sets) -> usize
+fn put_sets(out: &mut [u8], at: usize, csv: bool, numbered: bool, sets: Sets) -> usize
     requires { ⌜ sets .count ≤ mostKeys ⌝ }
-    ensures { λ r. ⌜ Puts (now (out .entry)) at (setsText csv (setsIn sets)) (now (out .exit)) r ⌝ }
+    ensures { λ r. ⌜ Puts (now (out .entry)) at (setsText csv numbered (confirmedSetsIn sets)) (now (out .exit)) r ⌝ }
 {
     let mut p = least(at, out.len());
     let mut k = 0;
     while k < sets.count {
         let set = sets.shown[k];
         if set.len != 0 {
-            p = put_set(out, p, csv, sets.keys[k], sets.on[k], set);
+            let key = sets.keys[k];
+            let on = sets.on[k];
+            let block = sets.confirmed[k];
+            let rows = Rows {
+                csv,
+                numbered,
+                key,
+                on,
+                block,
+            };
+            p = put_set(out, p, rows, set);
         }
         k += 1;
     }
@@ -307,16 +378,26 @@ fn put_sets(out: &mut [u8], at: usize, csv: bool, sets: Sets) -> usize
 }
 
 // Their size.
-fn sets_size(csv: bool, sets: Sets) -> usize
+fn sets_size(csv: bool, numbered: bool, sets: Sets) -> usize
     requires { ⌜ sets .count ≤ mostKeys ⌝ }
-    ensures { λ r. ⌜ (r ≡ length (setsText csv (setsIn sets))) × (r ≤ 205408) ⌝ }
+    ensures { λ r. ⌜ (r ≡ length (setsText csv numbered (confirmedSetsIn sets))) × (r ≤ 259904) ⌝ }
 {
     let mut size = 0;
     let mut i = 0;
     while i < sets.count {
         let list = sets.shown[i];
         if list.len != 0 {
-            size += set_size(csv, sets.keys[i], sets.on[i], list);
+            let key = sets.keys[i];
+            let on = sets.on[i];
+            let block = sets.confirmed[i];
+            let rows = Rows {
+                csv,
+                numbered,
+                key,
+                on,
+                block,
+            };
+            size += set_size(rows, list);
         }
         i += 1;
     }
@@ -324,8 +405,8 @@ fn sets_size(csv: bool, sets: Sets) -> usize
 }
 
 // The columns of a table at the front of a buffer: 9, then 8, each with the buffer as it was.
-pub fn write_columns(table: Table, csv: bool, out: &mut [u8]) -> Written
-    ensures { λ r. ⌜ Outputs (columns csv) table (now (out .entry)) r (now (out .exit)) ⌝ }
+pub fn write_columns(table: Table, csv: bool, numbered: bool, out: &mut [u8]) -> Written
+    ensures { λ r. ⌜ Outputs (columns csv numbered) table (now (out .entry)) r (now (out .exit)) ⌝ }
 {
     if !table.meets() {
         return Written {
@@ -334,15 +415,15 @@ pub fn write_columns(table: Table, csv: bool, out: &mut [u8]) -> Written
         };
     }
     let sets = table.sets;
-    let size = heading_size(csv) + sets_size(csv, sets);
+    let size = heading_size(csv, numbered) + sets_size(csv, numbered, sets);
     if out.len() < size {
         return Written {
             outcome: Outcome::ShortBuffer,
             size: 0,
         };
     }
-    let p = put_heading(out, 0, csv);
-    let end = put_sets(out, p, csv, sets);
+    let p = put_heading(out, 0, csv, numbered);
+    let end = put_sets(out, p, csv, numbered, sets);
     Written {
         outcome: Outcome::Done,
         size: end,

@@ -1,7 +1,9 @@
-// The listing's text (document 01, example 16), over a lent buffer: write_listing refuses a buffer that is
-// too short, and else writes the whole at its front. For each part of it there are its size and a writer
-// at a place. put_state and put_pairs are `pub` too, for a program that prints other lines of a table in
-// the same words. Every function is proved and none that is `pub` has a `requires`.
+// The listing's text (document 01, example 16), over a lent buffer, and the same with the numbers of blocks
+// (document 02, R-9): write_listing and write_confirmed refuse a buffer that is too short, and else write
+// the whole at its front. Both are one function inside, which is told whether lines are `numbered`; for
+// each part there are its size and a writer at a place. put_state and put_pairs are `pub` too, for a
+// program that prints other lines of a table in the same words. Every function is proved and none that is
+// `pub` has a `requires`.
 use lists::IdList;
 use lists::is_dead;
 use lists::least;
@@ -16,18 +18,20 @@ use rules::Outcome;
 use sets::Sets;
 use table::Table;
 ghost use mathlib.Core.Path.{_≡_};
+ghost use mathlib.Core.Bool.{cond};
 ghost use mathlib.Core.List.{[], _∷_, _++_};
 ghost use Prim.Native.Nat.{_+_, _*_, _≤_};
 ghost use lib.ListN.{length};
 ghost use Rattle.rules.specs.Field.{pair};
 ghost use Rattle.rules.specs.Collecting.{keyWidth, mostKeys, mostIds};
 ghost use Rattle.out.specs.Text.{hexText, decimal};
-ghost use Rattle.text.specs.Listing.{stateText, kindLetter, pairText, pairsText, deadText, idsText, lineOf, linesOf, tailText, listing};
+ghost use Rattle.text.specs.Listing.{stateText, kindLetter, pairText, pairsText, deadText, idsText, tailText, listing};
+ghost use Rattle.text.specs.Confirmed.{lineWith, confirmedListing};
+ghost use Rattle.text.specs.Lines.{numberText, linesIn, firstText, listed};
 ghost use Rattle.lists.specs.Stored.{pairsIn};
 ghost use Rattle.out.specs.Put.{Puts};
 ghost use Rattle.out.specs.Answer.{Outputs};
-ghost use Rattle.sets.specs.Shown.{shownAs, setsIn};
-ghost use Rattle.text.specs.Lines.{setsText};
+ghost use Rattle.sets.specs.Shown.{shownAs, confirmedSetsIn};
 
 // ---- the parts of a set's line
 
@@ -141,20 +145,44 @@ fn put_counted<'a>(out: &mut [u8], at: usize, word: &'a [u8], n: usize) -> usize
     put_decimal(out, p, n)
 }
 
+// The same of a block's number, where lines are numbered; else nothing.
+fn put_numbered<'a>(out: &mut [u8], at: usize, numbered: bool, word: &'a [u8], n: u32) -> usize
+    ensures { λ r. ⌜ Puts (now (out .entry)) at (cond numbered (now (word .entry) ++ decimal n) []) (now (out .exit)) r ⌝ }
+{
+    if numbered {
+        put_counted(out, at, word, n as usize)
+    } else {
+        least(at, out.len())
+    }
+}
+
+// The size of that, of a word of this many bytes.
+fn numbered_size(numbered: bool, word: usize, n: u32) -> usize
+    requires { ⌜ word ≤ 8 ⌝ }
+    ensures { λ r. ⌜ (r ≡ cond numbered (word + length (decimal n)) 0) × (r ≤ word + 20) ⌝ }
+{
+    if numbered {
+        word + decimal_size(n as usize)
+    } else {
+        0
+    }
+}
+
 // ---- the line of a set
 
 // The line up to the identifiers, of which there are n, at a place.
-fn put_head(out: &mut [u8], at: usize, key: u32, on: bool, n: usize) -> usize
-    ensures { λ r. ⌜ Puts (now (out .entry)) at (hexText 4 key ++ 32 ∷ stateText on ++ idsText n) (now (out .exit)) r ⌝ }
+fn put_head(out: &mut [u8], at: usize, numbered: bool, key: u32, on: bool, block: u32, n: usize) -> usize
+    ensures { λ r. ⌜ Puts (now (out .entry)) at (hexText 4 key ++ 32 ∷ stateText on ++ (numberText numbered block ++ idsText n)) (now (out .exit)) r ⌝ }
 {
     let p = put_hex(out, at, 4, key);
     let q = put_state(out, p, on);
-    put_counted(out, q, b" ids ", n)
+    let r = put_numbered(out, q, numbered, b" #", block);
+    put_counted(out, r, b" ids ", n)
 }
 
 // The size of the line of a set.
-fn line_size(key: u32, on: bool, list: IdList) -> usize
-    ensures { λ r. ⌜ (r ≡ length (lineOf (shownAs key on list))) × (r ≤ 1320) ⌝ }
+fn line_size(numbered: bool, key: u32, on: bool, block: u32, list: IdList) -> usize
+    ensures { λ r. ⌜ (r ≡ length (lineWith (numberText numbered block) (shownAs key on list))) × (r ≤ 1342) ⌝ }
 {
     let len = list.len;
     let rds = list.named % 2 == 1;
@@ -162,17 +190,18 @@ fn line_size(key: u32, on: bool, list: IdList) -> usize
     let r = mark_size(1, rds, &list.numbers, &list.kinds, len);
     let m = mark_size(3, drm, &list.numbers, &list.kinds, len);
     let n = least(len, IdList::MOST);
-    4 + state_size(on) + 5 + decimal_size(n) + pairs_size(key, n) + r + m + 1
+    let head = 4 + state_size(on) + numbered_size(numbered, 2, block) + 5 + decimal_size(n);
+    head + pairs_size(key, n) + r + m + 1
 }
 
 // The line of a set at a place.
-fn put_line(out: &mut [u8], at: usize, key: u32, on: bool, list: IdList) -> usize
-    ensures { λ r. ⌜ Puts (now (out .entry)) at (lineOf (shownAs key on list)) (now (out .exit)) r ⌝ }
+fn put_line(out: &mut [u8], at: usize, numbered: bool, key: u32, on: bool, block: u32, list: IdList) -> usize
+    ensures { λ r. ⌜ Puts (now (out .entry)) at (lineWith (numberText numbered block) (shownAs key on list)) (now (out .exit)) r ⌝ }
 {
     let len = list.len;
     let rds = list.named % 2 == 1;
     let drm = list.named / 2 == 1;
-    let p = put_head(out, at, key, on, least(len, IdList::MOST));
+    let p = put_head(out, at, numbered, key, on, block, least(len, IdList::MOST));
     let q = put_pairs(out, p, key, &list.numbers, &list.kinds, len);
     let r = put_mark(out, q, rules::RDS, rds, &list.numbers, &list.kinds, len);
     let m = put_mark(out, r, rules::DRM, drm, &list.numbers, &list.kinds, len);
@@ -181,26 +210,20 @@ fn put_line(out: &mut [u8], at: usize, key: u32, on: bool, list: IdList) -> usiz
 
 // ---- the first line and the tail
 
-// A line that is a word and a count, at a place.
-fn put_number_line<'a>(out: &mut [u8], at: usize, word: &'a [u8], n: usize) -> usize
-    ensures { λ r. ⌜ Puts (now (out .entry)) at (now (word .entry) ++ decimal n ++ 10 ∷ []) (now (out .exit)) r ⌝ }
-{
-    let p = put_counted(out, at, word, n);
-    put(out, p, 10)
-}
-
 // The size of the first line.
-fn first_size(count: usize) -> usize
-    ensures { λ r. ⌜ (r ≡ length (setsText count)) × (r ≤ 26) ⌝ }
+fn first_size(numbered: bool, count: usize, blocks: u32) -> usize
+    ensures { λ r. ⌜ (r ≡ length (firstText numbered count blocks)) × (r ≤ 54) ⌝ }
 {
-    6 + decimal_size(count)
+    6 + decimal_size(count) + numbered_size(numbered, 8, blocks)
 }
 
 // The first line at a place.
-fn put_first(out: &mut [u8], at: usize, count: usize) -> usize
-    ensures { λ r. ⌜ Puts (now (out .entry)) at (setsText count) (now (out .exit)) r ⌝ }
+fn put_first(out: &mut [u8], at: usize, numbered: bool, count: usize, blocks: u32) -> usize
+    ensures { λ r. ⌜ Puts (now (out .entry)) at (firstText numbered count blocks) (now (out .exit)) r ⌝ }
 {
-    put_number_line(out, at, b"sets ", count)
+    let p = put_counted(out, at, b"sets ", count);
+    let q = put_numbered(out, p, numbered, b" blocks ", blocks);
+    put(out, q, 10)
 }
 
 // The size of the tail: 0 where no byte is left over.
@@ -217,23 +240,24 @@ fn put_tail(out: &mut [u8], at: usize, over: usize) -> usize
     if over == 0 {
         least(at, out.len())
     } else {
-        put_number_line(out, at, b"tail ", over)
+        let p = put_counted(out, at, b"tail ", over);
+        put(out, p, 10)
     }
 }
 
 // ---- the whole listing
 
 // The size of the lines of the sets of a sets.
-fn lines_size(sets: Sets) -> usize
+fn lines_size(numbered: bool, sets: Sets) -> usize
     requires { ⌜ sets .count ≤ mostKeys ⌝ }
-    ensures { λ r. ⌜ (r ≡ length (linesOf (setsIn sets))) × (r ≤ 42240) ⌝ }
+    ensures { λ r. ⌜ (r ≡ length (linesIn numbered (confirmedSetsIn sets))) × (r ≤ 42944) ⌝ }
 {
     let mut size = 0;
     let mut i = 0;
     while i < sets.count {
         let list = sets.shown[i];
         if list.len != 0 {
-            size += line_size(sets.keys[i], sets.on[i], list);
+            size += line_size(numbered, sets.keys[i], sets.on[i], sets.confirmed[i], list);
         }
         i += 1;
     }
@@ -241,26 +265,25 @@ fn lines_size(sets: Sets) -> usize
 }
 
 // The lines of the sets at a place.
-fn put_lines(out: &mut [u8], at: usize, sets: Sets) -> usize
+fn put_lines(out: &mut [u8], at: usize, numbered: bool, sets: Sets) -> usize
     requires { ⌜ sets .count ≤ mostKeys ⌝ }
-    ensures { λ r. ⌜ Puts (now (out .entry)) at (linesOf (setsIn sets)) (now (out .exit)) r ⌝ }
+    ensures { λ r. ⌜ Puts (now (out .entry)) at (linesIn numbered (confirmedSetsIn sets)) (now (out .exit)) r ⌝ }
 {
     let mut p = least(at, out.len());
     let mut k = 0;
     while k < sets.count {
         let set = sets.shown[k];
         if set.len != 0 {
-            p = put_line(out, p, sets.keys[k], sets.on[k], set);
+            p = put_line(out, p, numbered, sets.keys[k], sets.on[k], sets.confirmed[k], set);
         }
         k += 1;
     }
     p
 }
 
-// The listing of a table, with this many bytes left over, at the front of a buffer: 9, then 8, each
-// with the buffer as it was.
-pub fn write_listing(table: Table, over: usize, out: &mut [u8]) -> Written
-    ensures { λ r. ⌜ Outputs (λ c. listing c over) table (now (out .entry)) r (now (out .exit)) ⌝ }
+// The listing of a table, with the numbers or without, at the front of a buffer.
+fn write_lines(table: Table, numbered: bool, over: usize, out: &mut [u8]) -> Written
+    ensures { λ r. ⌜ Outputs (λ c. listed numbered c over) table (now (out .entry)) r (now (out .exit)) ⌝ }
 {
     if !table.meets() {
         return Written {
@@ -270,18 +293,35 @@ pub fn write_listing(table: Table, over: usize, out: &mut [u8]) -> Written
     }
     let sets = table.sets;
     let count = sets.shown_count();
-    let size = first_size(count) + lines_size(sets) + tail_size(over);
+    let blocks = table.blocks;
+    let size = first_size(numbered, count, blocks) + lines_size(numbered, sets) + tail_size(over);
     if out.len() < size {
         return Written {
             outcome: Outcome::ShortBuffer,
             size: 0,
         };
     }
-    let p = put_first(out, 0, count);
-    let q = put_lines(out, p, sets);
+    let p = put_first(out, 0, numbered, count, blocks);
+    let q = put_lines(out, p, numbered, sets);
     let end = put_tail(out, q, over);
     Written {
         outcome: Outcome::Done,
         size: end,
     }
+}
+
+// The listing of a table, with this many bytes left over, at the front of a buffer: 9, then 8, each
+// with the buffer as it was.
+pub fn write_listing(table: Table, over: usize, out: &mut [u8]) -> Written
+    ensures { λ r. ⌜ Outputs (λ c. listing c over) table (now (out .entry)) r (now (out .exit)) ⌝ }
+{
+    write_lines(table, false, over, out)
+}
+
+// The same with the numbers: of each set that of the block at which it was last shown, and how many blocks
+// the table has counted.
+pub fn write_confirmed(table: Table, over: usize, out: &mut [u8]) -> Written
+    ensures { λ r. ⌜ Outputs (λ c. confirmedListing c over) table (now (out .entry)) r (now (out .exit)) ⌝ }
+{
+    write_lines(table, true, over, out)
 }

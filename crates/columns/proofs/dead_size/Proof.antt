@@ -1,10 +1,6 @@
 -- `columns::dead_size` meets its contract: one row, or none.
-use Prim.Native.Nat.{ℕ, _+_}
 use native.Mathlib.Omega.{arith}
-use mathlib.Core.Path.{_≡_, sym, ap, _∙_}
-use mathlib.Core.Bool.{cond}
-use lib.ListN.{length}
-use Rattle.text.specs.Listing.{stateText}
+use mathlib.Core.Path.{sym, _∙_}
 use borrow.Author.Needs.{needs}
 use Rattle.columns.proofs.dead_size.Statement.{statement}
 use Rattle.columns.proofs.dead_size.Tie as tie
@@ -16,10 +12,7 @@ row-size-requires : tie.Need-row-size-requires
 row-size-requires c κs = search needs
 
 returns : tie.Need-returns
-returns c =
-    let a = c .before .before .before .before .before .before .before .before .args in
-    let n : 11 + length (stateText (a .on)) + 9 ≡ 20 + length (stateText (a .on)) = omega arith in
-    (rw (sym (c .before .before .is-dead .ensures) ∙ c .before .if1 .taken) (c .row-size .ensures .0 ∙ ap (λ (k : ℕ). cond (a .csv) k 49) n), c .row-size .ensures .1)
+returns c = (rw (sym (c .before .before .is-dead .ensures) ∙ c .before .if1 .taken) (c .row-size .ensures .0), c .row-size .ensures .1)
 
 returns-2 : tie.Need-returns-2
 returns-2 c = (rw (sym (c .before .is-dead .ensures) ∙ c .if1 .left), omega arith)

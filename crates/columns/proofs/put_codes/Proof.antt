@@ -10,19 +10,19 @@ use Rattle.out.proofs.Runs.{Going, going-start, going-on, going-end}
 use Rattle.sets.specs.Shown.{shownAs}
 use Rattle.lists.proofs.KindLaws.{pairs-here, pairs-end}
 use Rattle.columns.specs.Columns.{codeRows, rowsText}
-use Rattle.columns.specs.Cells.{cellOf}
+use Rattle.columns.specs.Cells.{cellOf, numberIn}
 use borrow.Author.Needs.{needs}
 use Rattle.columns.proofs.put_codes.Statement.{statement}
 use Rattle.columns.proofs.put_codes.Tie as tie
 
 abbrev Inv-loop : tie.InvT-loop
-Inv-loop out₀ at csv key on list end p₀ j₀ out p j =
+Inv-loop out₀ at rows list end p₀ j₀ out p j =
     (end ≡ min (list .len) mostIds)
-    × Going out₀ at (rowsText csv (codeRows (shownAs key on list) (pairsIn (list .kinds) (list .numbers) (list .len))))
-    out p (rowsText csv (codeRows (shownAs key on list) (drop j (pairsIn (list .kinds) (list .numbers) (list .len)))))
+    × Going out₀ at (rowsText (rows .csv) (codeRows (numberIn rows) (shownAs (rows .key) (rows .on) list) (pairsIn (list .kinds) (list .numbers) (list .len))))
+    out p (rowsText (rows .csv) (codeRows (numberIn rows) (shownAs (rows .key) (rows .on) list) (drop j (pairsIn (list .kinds) (list .numbers) (list .len)))))
 
 abbrev μ-loop : tie.MeasureT-loop
-μ-loop out₀ at csv key on list end p₀ j₀ out p j = end - j
+μ-loop out₀ at rows list end p₀ j₀ out p j = end - j
 
 least-requires : tie.Need-least-requires Inv-loop μ-loop
 least-requires c κs = tt
@@ -55,14 +55,15 @@ loop-again : tie.Need-loop-again Inv-loop μ-loop
 unfolding rowsText codeRows shownAs cellOf pair
 loop-again c =
     let a = c .before .before .before .before .before .before .before .before .before .before .before .args in
-    let l = a .t6 in
+    let w = a .rows in
+    let l = a .t4 in
     let at = c .before .before .before .before .before .before .before .loop in
     let ns : length (l .numbers) ≡ mostIds = search needs in
     let ks : length (l .kinds) ≡ mostIds = search needs in
     let n : c .before .before .before .before .before .before .before .before .before .least .result ≡ min (l .len) (min (length (l .kinds)) (length (l .numbers))) = omega (arith, at .inv .0) in (
       at .inv .0,
       going-on
-          (ap (λ ps. rowsText (a .csv) (codeRows (shownAs (a .key) (a .on) l) ps)) (pairs-here (l .kinds) (l .numbers) (l .len) (at .j) n (c .before .before .before .before .before .before .loop-test .taken)))
+          (ap (λ ps. rowsText (w .csv) (codeRows (numberIn w) (shownAs (w .key) (w .on) l) ps)) (pairs-here (l .kinds) (l .numbers) (l .len) (at .j) n (c .before .before .before .before .before .before .loop-test .taken)))
           (at .inv .1)
           (c .before .before .put-row .ensures),
     )
@@ -74,12 +75,13 @@ returns : tie.Need-returns Inv-loop μ-loop
 unfolding rowsText codeRows
 returns c =
     let a = c .before .before .before .before .before .args in
-    let l = a .t6 in
+    let w = a .rows in
+    let l = a .t4 in
     let at = c .before .loop in
     let ns : length (l .numbers) ≡ mostIds = search needs in
     let ks : length (l .kinds) ≡ mostIds = search needs in
     let n : c .before .before .before .least .result ≡ min (l .len) (min (length (l .kinds)) (length (l .numbers))) = omega (arith, at .inv .0) in
-    going-end (ap (λ ps. rowsText (a .csv) (codeRows (shownAs (a .key) (a .on) l) ps)) (pairs-end (l .kinds) (l .numbers) (l .len) (at .j) n (c .loop-test .left))) (at .inv .1)
+    going-end (ap (λ ps. rowsText (w .csv) (codeRows (numberIn w) (shownAs (w .key) (w .on) l) ps)) (pairs-end (l .kinds) (l .numbers) (l .len) (at .j) n (c .loop-test .left))) (at .inv .1)
 
 pub put-codes-spec : {M : Type 1} → statement M
 put-codes-spec =

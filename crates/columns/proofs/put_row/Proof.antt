@@ -7,7 +7,7 @@ use lib.Dec.{eqb}
 use Rattle.rules.specs.Collecting.{keyWidth}
 use Rattle.rules.proofs.TableRules.{width-most}
 use Rattle.out.proofs.Runs.{puts-as, puts-then}
-use Rattle.columns.specs.Columns.{Cell, blank, rowOf, filled, lineText, cellText, rowText}
+use Rattle.columns.specs.Columns.{Cell, blank, rowOf, filled, cellsText, cellText, rowText}
 use Rattle.columns.specs.Cells.{cellOf}
 use Rattle.columns.proofs.Lines.{third-column}
 use borrow.Author.Needs.{needs}
@@ -18,7 +18,7 @@ width-of-requires : tie.Need-width-of-requires
 width-of-requires c κs = tt
 
 mul-digits : tie.Need-mul-digits
-mul-digits c = record { fits = omega (arith, c .width-of .ensures, width-most (c .before .before .args .key)) }
+mul-digits c = record { fits = omega (arith, c .width-of .ensures, width-most (c .before .before .args .rows .key)) }
 
 put-head-requires : tie.Need-put-head-requires
 put-head-requires c κs = tt
@@ -38,29 +38,30 @@ put-gap-requires-2 c κs = tt
 put-cell-requires-3 : tie.Need-put-cell-requires-3
 put-cell-requires-3 c κs = tt
 
-put-requires : tie.Need-put-requires
-put-requires c κs = tt
+put-end-requires : tie.Need-put-end-requires
+put-end-requires c κs = tt
 
 same-length : tie.Need-same-length
 same-length c = search needs
 
 returns : tie.Need-returns
-unfolding rowText rowOf lineText
+unfolding rowText rowOf cellsText
 returns c =
     let a = c .before .before .before .before .before .before .before .before .before .before .before .before .before .before .before .before .before .before .before .before .before .before .before .before .before .before .before .before .before .before .args in
-    let w : 2 * c .before .before .before .before .before .before .before .before .before .before .before .before .before .before .before .before .before .before .before .before .before .before .before .before .before .before .before .before .width-of .result ≡ 2 * keyWidth (a .key) = ap (λ (k : ℕ). 2 * k) (c .before .before .before .before .before .before .before .before .before .before .before .before .before .before .before .before .before .before .before .before .before .before .before .before .before .before .before .before .width-of .ensures) in
-    let first = ap (λ (d : ℕ). filled (a .csv) 9 (cellText (a .csv) (cond (eqb (a .kind) 0) (cellOf (a .gone) d (a .n)) blank))) w in
-    let second = ap (λ (d : ℕ). filled (a .csv) 9 (cellText (a .csv) (cond (eqb (a .kind) 1) (cellOf (a .gone) d (a .n)) blank))) w in
+    let csv = a .rows .csv in
+    let w : 2 * c .before .before .before .before .before .before .before .before .before .before .before .before .before .before .before .before .before .before .before .before .before .before .before .before .before .before .before .before .width-of .result ≡ 2 * keyWidth (a .rows .key) = ap (λ (k : ℕ). 2 * k) (c .before .before .before .before .before .before .before .before .before .before .before .before .before .before .before .before .before .before .before .before .before .before .before .before .before .before .before .before .width-of .ensures) in
+    let first = ap (λ (d : ℕ). filled csv 9 (cellText csv (cond (eqb (a .kind) 0) (cellOf (a .gone) d (a .n)) blank))) w in
+    let second = ap (λ (d : ℕ). filled csv 9 (cellText csv (cond (eqb (a .kind) 1) (cellOf (a .gone) d (a .n)) blank))) w in
     let third =
-    ap (λ (x : Cell). filled (a .csv) 9 (cellText (a .csv) x)) (third-column (a .kind) (cellOf (a .gone) (2 * c .before .before .before .before .before .before .before .before .before .before .before .before .before .before .before .before .before .before .before .before .before .before .before .before .before .before .before .before .width-of .result) (a .n)))
-    ∙ ap (λ (d : ℕ). filled (a .csv) 9 (cellText (a .csv) (cond (eqb (a .kind) 0 || eqb (a .kind) 1) blank (cellOf (a .gone) d (a .n))))) w in
+    ap (λ (x : Cell). filled csv 9 (cellText csv x)) (third-column (a .kind) (cellOf (a .gone) (2 * c .before .before .before .before .before .before .before .before .before .before .before .before .before .before .before .before .before .before .before .before .before .before .before .before .before .before .before .before .width-of .result) (a .n)))
+    ∙ ap (λ (d : ℕ). filled csv 9 (cellText csv (cond (eqb (a .kind) 0 || eqb (a .kind) 1) blank (cellOf (a .gone) d (a .n))))) w in
     puts-then
     (puts-then
     (puts-then
     (puts-then (puts-then (puts-then (c .before .before .before .before .before .before .before .before .before .before .before .before .before .before .before .before .before .before .before .before .before .before .before .before .before .before .put-head .ensures) (puts-as first (c .before .before .before .before .before .before .before .before .before .before .before .before .before .before .before .before .before .before .before .before .before .before .put-cell .ensures))) (c .before .before .before .before .before .before .before .before .before .before .before .before .before .before .before .before .before .before .put-gap .ensures)) (puts-as second (c .before .before .before .before .before .before .before .before .before .before .before .before .before .before .put-cell2 .ensures)))
     (c .before .before .before .before .before .before .before .before .before .before .put-gap2 .ensures))
     (puts-as third (c .before .before .before .before .before .before .put-cell3 .ensures)))
-    (c .before .before .put .ensures)
+    (c .before .before .put-end .ensures)
 
 pub put-row-spec : {M : Type 1} → statement M
 put-row-spec =
@@ -74,6 +75,6 @@ put-row-spec =
     put-cell-requires-2
     put-gap-requires-2
     put-cell-requires-3
-    put-requires
+    put-end-requires
     same-length
     returns)

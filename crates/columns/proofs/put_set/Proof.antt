@@ -1,6 +1,7 @@
 -- `columns::put_set` meets its contract: its parts one after another.
 use Rattle.out.proofs.Runs.{puts-as, puts-then}
 use Rattle.sets.specs.Shown.{setIn, shownAs}
+use Rattle.columns.specs.Cells.{numberIn}
 use Rattle.columns.proofs.Lines.{set-parts}
 use borrow.Author.Needs.{needs}
 use Rattle.columns.proofs.put_set.Statement.{statement}
@@ -25,7 +26,8 @@ returns : tie.Need-returns
 unfolding shownAs setIn
 returns c =
     let a = c .before .before .before .before .before .before .before .before .before .before .before .before .before .before .before .before .before .before .before .args in
-    puts-as (set-parts (a .csv) (shownAs (a .key) (a .on) (a .list)))
+    let w = a .rows in
+    puts-as (set-parts (w .csv) (numberIn w) (shownAs (w .key) (w .on) (a .list)) _)
     (puts-then (puts-then (puts-then (c .before .before .before .before .before .before .before .before .before .before .before .before .before .before .put-codes .ensures) (c .before .before .before .before .before .before .before .before .before .before .put-dead .ensures)) (c .before .before .before .before .before .before .put-dead2 .ensures)) (c .before .before .put-rule .ensures))
 
 pub put-set-spec : {M : Type 1} → statement M

@@ -1,22 +1,21 @@
 -- `columns::put_sets` meets its contract: the text of the sets from the present entry on is what is left to write.
 use Prim.Native.Nat.{_-_}
-use native.Mathlib.Omega.{arith}
-use mathlib.Core.Path.{refl, sym, ap, subst}
+use mathlib.Core.Path.{refl, sym, subst}
 use mathlib.Core.Logic.{⊎-elim}
 use Rattle.out.proofs.Runs.{Going, going-start, going-on, going-as, going-end}
-use Rattle.sets.specs.Shown.{setsFrom, setsIn}
-use Rattle.sets.proofs.ShownLaws.{sets-skip, sets-end, sets-all}
+use Rattle.sets.specs.Shown.{confirmedSetsIn}
 use Rattle.columns.specs.Columns.{setsText}
-use Rattle.columns.proofs.Whole.{text-next}
+use Rattle.columns.proofs.Whole.{textFrom, text-all, text-skip, text-next, text-end}
 use borrow.Author.Needs.{needs}
 use Rattle.columns.proofs.put_sets.Statement.{statement}
 use Rattle.columns.proofs.put_sets.Tie as tie
 
 abbrev Inv-loop : tie.InvT-loop
-Inv-loop out₀ at csv table p₀ k₀ out p k = Going out₀ at (setsText csv (setsIn table)) out p (setsText csv (setsFrom table k (table .count - k)))
+Inv-loop out₀ at csv numbered sets p₀ k₀ out p k =
+    Going out₀ at (setsText csv numbered (confirmedSetsIn sets)) out p (textFrom csv numbered sets k (sets .count))
 
 abbrev μ-loop : tie.MeasureT-loop
-μ-loop out₀ at csv table p₀ k₀ out p k = table .count - k
+μ-loop out₀ at csv numbered sets p₀ k₀ out p k = sets .count - k
 
 least-requires : tie.Need-least-requires Inv-loop μ-loop
 least-requires c κs = tt
@@ -24,8 +23,8 @@ least-requires c κs = tt
 loop-holds : tie.Need-loop-holds Inv-loop μ-loop
 loop-holds c =
     let a = c .before .before .args in
-    subst (λ rest. Going (a .out .now) (a .at) (setsText (a .csv) (setsIn (a .t4))) (a .out .now) (c .least .result) rest)
-    (sym (ap (setsText (a .csv)) (sets-all (a .t4) {n = a .t4 .count} (omega (arith, c .before .before .pre)))))
+    subst (λ rest. Going (a .out .now) (a .at) (setsText (a .csv) (a .numbered) (confirmedSetsIn (a .t5))) (a .out .now) (c .least .result) rest)
+    (sym (text-all (a .csv) (a .numbered) (a .t5) (c .before .before .pre)))
     (going-start _ _ _ _ (c .least .ensures))
 
 mul-set : tie.Need-mul-set Inv-loop μ-loop
@@ -34,14 +33,20 @@ mul-set c = search needs
 element-copy-out-set : tie.Need-element-copy-out-set Inv-loop μ-loop
 element-copy-out-set c = search needs
 
-mul-put-set : tie.Need-mul-put-set Inv-loop μ-loop
-mul-put-set c = search needs
+mul-key : tie.Need-mul-key Inv-loop μ-loop
+mul-key c = search needs
 
-element-copy-out-put-set : tie.Need-element-copy-out-put-set Inv-loop μ-loop
-element-copy-out-put-set c = search needs
+element-copy-out-key : tie.Need-element-copy-out-key Inv-loop μ-loop
+element-copy-out-key c = search needs
 
-element-copy-out-put-set-2 : tie.Need-element-copy-out-put-set-2 Inv-loop μ-loop
-element-copy-out-put-set-2 c = search needs
+element-copy-out-on : tie.Need-element-copy-out-on Inv-loop μ-loop
+element-copy-out-on c = search needs
+
+mul-block : tie.Need-mul-block Inv-loop μ-loop
+mul-block c = search needs
+
+element-copy-out-block : tie.Need-element-copy-out-block Inv-loop μ-loop
+element-copy-out-block c = search needs
 
 put-set-requires : tie.Need-put-set-requires Inv-loop μ-loop
 put-set-requires c κs = tt
@@ -54,24 +59,22 @@ loop-less c = search needs
 
 loop-again : tie.Need-loop-again Inv-loop μ-loop
 loop-again c =
-    let csv = c .before .before .before .before .before .before .before .args .csv in
-    let t = c .before .before .before .before .before .before .before .args .t4 in
+    let a = c .before .before .before .before .before .before .before .args in
+    let t = a .t5 in
     let at = c .before .before .before .before .loop in
     let inside = c .before .before .before .loop-test .taken in
     ⊎-elim
-    (λ w. going-as (w .7) (w .8) refl (going-on (text-next csv t (at .k) (t .count) inside (w .0 .taken)) (at .inv) (w .4 .ensures)))
-    (λ w. going-as (w .1) (w .2) (ap (setsText csv) (sets-skip t (at .k) (t .count) inside (w .0 .left))) (at .inv))
+    (λ w. going-as (w .8) (w .9) refl (going-on (text-next (a .csv) (a .numbered) t (at .k) (t .count) inside (w .0 .taken)) (at .inv) (w .5 .ensures)))
+    (λ w. going-as (w .1) (w .2) (text-skip (a .csv) (a .numbered) t (at .k) (t .count) inside (w .0 .left)) (at .inv))
     (c .if1 .came)
 
 same-length : tie.Need-same-length Inv-loop μ-loop
 same-length c = c .before .loop .inv .long
 
 returns : tie.Need-returns Inv-loop μ-loop
-unfolding setsText
 returns c =
-    let t = c .before .before .before .before .args .t4 in
-    let at = c .before .loop in
-    going-end (ap (setsText (c .before .before .before .before .args .csv)) (sets-end t (at .k) (t .count) (c .loop-test .left))) (at .inv)
+    let a = c .before .before .before .before .args in
+    going-end (text-end (a .csv) (a .numbered) (a .t5) (c .before .loop .k) _ (c .loop-test .left)) (c .before .loop .inv)
 
 pub put-sets-spec : {M : Type 1} → statement M
 put-sets-spec =
@@ -83,9 +86,11 @@ put-sets-spec =
     loop-holds
     mul-set
     element-copy-out-set
-    mul-put-set
-    element-copy-out-put-set
-    element-copy-out-put-set-2
+    mul-key
+    element-copy-out-key
+    element-copy-out-on
+    mul-block
+    element-copy-out-block
     put-set-requires
     add-k
     loop-less

@@ -2,13 +2,12 @@
 use Prim.Native.Nat.{ℕ, _+_, _*_}
 use native.Mathlib.Omega.{arith}
 use mathlib.Core.Path.{_≡_, ap, _∙_}
-use mathlib.Core.Bool.{cond}
 use lib.ListN.{length}
 use Rattle.rules.specs.Collecting.{keyWidth, mostIds}
-use Rattle.text.specs.Listing.{stateText}
 use Rattle.lists.specs.Stored.{pairsIn}
 use Rattle.lists.proofs.Pairs.{length-pairs-in}
 use Rattle.sets.specs.Shown.{setIn, shownAs}
+use Rattle.columns.specs.Cells.{numberIn, rowSize}
 use Rattle.columns.proofs.Lines.{length-set}
 use borrow.Author.Needs.{needs}
 use Rattle.columns.proofs.set_size.Statement.{statement}
@@ -42,13 +41,14 @@ returns : tie.Need-returns
 unfolding shownAs setIn
 returns c =
     let a = c .before .before .before .before .before .before .before .args in
+    let w = a .rows in
     let l = a .list in
     let ns : length (l .numbers) ≡ mostIds = search needs in
     let ks : length (l .kinds) ≡ mostIds = search needs in
     let n : c .before .before .before .before .least .result ≡ length (pairsIn (l .kinds) (l .numbers) (l .len)) = omega (arith, c .before .before .before .before .least .ensures, length-pairs-in (l .kinds) (l .numbers) (l .len)) in
     let size =
-    length-set (a .csv) (shownAs (a .key) (a .on) l)
-    (c .before .before .before .codes-size .ensures .0 ∙ ap (λ (k : ℕ). k * cond (a .csv) (13 + length (stateText (a .on)) + 2 * keyWidth (a .key)) 49) n)
+    length-set (w .csv) (numberIn w) (shownAs (w .key) (w .on) l) _
+    (c .before .before .before .codes-size .ensures .0 ∙ ap (λ (k : ℕ). k * rowSize (w .csv) (w .on) (numberIn w) (2 + 2 * keyWidth (w .key))) n)
     (c .before .before .dead-size .ensures .0)
     (c .before .dead-size2 .ensures .0)
     (c .rule-size .ensures .0) in

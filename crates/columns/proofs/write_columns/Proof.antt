@@ -32,8 +32,7 @@ returns-2 : tie.Need-returns-2
 returns-2 c =
     let a = c .before .before .before .before .before .before .before .args in
     given-right (c .before .before .before .before .before .meets .ensures) (not-false _ (c .before .before .before .before .if1 .left)) (λ d m e.
-    written-short _ _
-    (omega (arith, c .if2 .taken, columns-size (a .csv) (a .table .sets) d m (sets-are _ d m e) (c .before .before .heading-size .ensures .0) (c .before .sets-size .ensures .0))))
+    written-short _ _ (omega (arith, c .if2 .taken, columns-size (a .csv) (a .numbered) (a .table .sets) d m (sets-are _ d m e) (c .before .before .heading-size .ensures .0) (c .before .sets-size .ensures .0))))
 
 put-heading-requires : tie.Need-put-heading-requires
 put-heading-requires c κs = tt
@@ -48,9 +47,8 @@ returns-3 : tie.Need-returns-3
 returns-3 c =
     let a = c .before .before .before .before .before .before .before .before .before .before .before .before .before .before .before .args in
     given-right (c .before .before .before .before .before .before .before .before .before .before .before .before .before .meets .ensures) (not-false _ (c .before .before .before .before .before .before .before .before .before .before .before .before .if1 .left)) (λ d m e.
-    written-done
-    (omega (arith, c .before .before .before .before .before .before .before .before .if2 .left, columns-size (a .csv) (a .table .sets) d m (sets-are _ d m e) (c .before .before .before .before .before .before .before .before .before .before .heading-size .ensures .0) (c .before .before .before .before .before .before .before .before .before .sets-size .ensures .0)))
-    (puts-as (columns-of (a .csv) (a .table .sets) d m (sets-are _ d m e)) (puts-then (c .before .before .before .before .before .before .put-heading .ensures) (c .before .before .put-sets .ensures))))
+    written-done (omega (arith, c .before .before .before .before .before .before .before .before .if2 .left, columns-size (a .csv) (a .numbered) (a .table .sets) d m (sets-are _ d m e) (c .before .before .before .before .before .before .before .before .before .before .heading-size .ensures .0) (c .before .before .before .before .before .before .before .before .before .sets-size .ensures .0)))
+    (puts-as (columns-of (a .csv) (a .numbered) (a .table .sets) d m (sets-are _ d m e)) (puts-then (c .before .before .before .before .before .before .put-heading .ensures) (c .before .before .put-sets .ensures))))
 
 pub write-columns-spec : {M : Type 1} → statement M
 write-columns-spec =

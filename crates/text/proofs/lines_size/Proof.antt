@@ -3,24 +3,24 @@ use Prim.Native.Nat.{_+_, _-_, _*_, _≤_}
 use native.Mathlib.Omega.{arith}
 use mathlib.Core.Path.{_≡_, ap}
 use mathlib.Core.Logic.{⊎-elim}
-use lib.ListN.{length, length-append}
-use Rattle.text.specs.Listing.{lineOf, linesOf}
-use Rattle.sets.specs.Shown.{shownAt, setsFrom, setsIn}
-use Rattle.sets.proofs.ShownLaws.{sets-skip, sets-end, sets-all}
-use Rattle.text.proofs.SetLaws.{lines-next}
+use lib.ListN.{length, getD, length-append}
+use Rattle.sets.specs.Shown.{shownAt, confirmedSetsIn}
+use Rattle.text.specs.Confirmed.{lineWith}
+use Rattle.text.specs.Lines.{numberText, linesIn}
+use Rattle.text.proofs.SetLaws.{linesFrom, lines-all, lines-skip, lines-next, lines-end}
 use borrow.Author.Needs.{needs}
 use Rattle.text.proofs.lines_size.Statement.{statement}
 use Rattle.text.proofs.lines_size.Tie as tie
 
 abbrev Inv-loop : tie.InvT-loop
-Inv-loop table size₀ i₀ size i =
-    (size + length (linesOf (setsFrom table i (table .count - i))) ≡ length (linesOf (setsIn table))) × (size ≤ i * 1320) × (i ≤ table .count)
+Inv-loop numbered sets size₀ i₀ size i =
+    (size + length (linesFrom numbered sets i (sets .count)) ≡ length (linesIn numbered (confirmedSetsIn sets))) × (size ≤ i * 1342) × (i ≤ sets .count)
 
 abbrev μ-loop : tie.MeasureT-loop
-μ-loop table size₀ i₀ size i = table .count - i
+μ-loop numbered sets size₀ i₀ size i = sets .count - i
 
 loop-holds : tie.Need-loop-holds Inv-loop μ-loop
-loop-holds c = (omega (arith, ap (λ ss. length (linesOf ss)) (sets-all (c .args .t1) {n = c .args .t1 .count} (omega (arith, c .pre)))), omega arith, omega arith)
+loop-holds c = (omega (arith, ap length (lines-all (c .args .numbered) (c .args .t2) (c .pre))), omega arith, omega arith)
 
 mul-list : tie.Need-mul-list Inv-loop μ-loop
 mul-list c = search needs
@@ -37,11 +37,17 @@ element-copy-out-line-size c = search needs
 element-copy-out-line-size-2 : tie.Need-element-copy-out-line-size-2 Inv-loop μ-loop
 element-copy-out-line-size-2 c = search needs
 
+mul-line-size-2 : tie.Need-mul-line-size-2 Inv-loop μ-loop
+mul-line-size-2 c = search needs
+
+element-copy-out-line-size-3 : tie.Need-element-copy-out-line-size-3 Inv-loop μ-loop
+element-copy-out-line-size-3 c = search needs
+
 line-size-requires : tie.Need-line-size-requires Inv-loop μ-loop
 line-size-requires c κs = tt
 
 add-size : tie.Need-add-size Inv-loop μ-loop
-add-size c = record { fits = omega (arith, c .line-size .ensures .1, c .before .before .before .before .before .before .before .loop .inv .1, c .before .before .before .before .before .before .loop-test .taken, c .before .before .before .before .before .before .before .before .pre) }
+add-size c = record { fits = omega (arith, c .line-size .ensures .1, c .before .before .before .before .before .before .before .before .loop .inv .1, c .before .before .before .before .before .before .before .loop-test .taken, c .before .before .before .before .before .before .before .before .before .pre) }
 
 add-i : tie.Need-add-i Inv-loop μ-loop
 add-i c = search needs
@@ -51,7 +57,8 @@ loop-less c = search needs
 
 loop-again : tie.Need-loop-again Inv-loop μ-loop
 loop-again c =
-    let t = c .before .before .before .before .before .args .t1 in
+    let numbered = c .before .before .before .before .before .args .numbered in
+    let t = c .before .before .before .before .before .args .t2 in
     let at = c .before .before .before .before .loop in
     let inside = c .before .before .before .loop-test .taken in
     ⊎-elim
@@ -59,23 +66,21 @@ loop-again c =
       omega (
         arith,
         at .inv .0,
-        w .4,
-        w .3 .ensures .0,
-        ap length (lines-next t (at .i) (t .count) inside (w .0 .taken)),
-        length-append (lineOf (shownAt t (at .i))) (linesOf (setsFrom t (at .i + 1) (t .count - (at .i + 1)))),
+        w .5,
+        w .4 .ensures .0,
+        ap length (lines-next numbered t (at .i) (t .count) inside (w .0 .taken)),
+        length-append (lineWith (numberText numbered (getD (t .confirmed) (at .i) 0)) (shownAt t (at .i))) (linesFrom numbered t (at .i + 1) (t .count)),
       ),
-      omega (arith, at .inv .1, w .4, w .3 .ensures .1),
+      omega (arith, at .inv .1, w .5, w .4 .ensures .1),
       omega (arith, inside),
     ))
-    (λ w. (omega (arith, at .inv .0, w .1, ap (λ ss. length (linesOf ss)) (sets-skip t (at .i) (t .count) inside (w .0 .left))), omega (arith, at .inv .1, w .1), omega (arith, inside)))
+    (λ w. (omega (arith, at .inv .0, w .1, ap length (lines-skip numbered t (at .i) (t .count) inside (w .0 .left))), omega (arith, at .inv .1, w .1), omega (arith, inside)))
     (c .if1 .came)
 
 returns : tie.Need-returns Inv-loop μ-loop
-unfolding linesOf
 returns c =
-    let t = c .before .before .args .t1 in
     let at = c .before .loop in
-    (omega (arith, at .inv .0, ap (λ ss. length (linesOf ss)) (sets-end t (at .i) (t .count) (c .loop-test .left))), omega (arith, at .inv .1, at .inv .2, c .before .before .pre))
+    (omega (arith, at .inv .0, ap length (lines-end (c .before .before .args .numbered) (c .before .before .args .t2) (at .i) _ (c .loop-test .left))), omega (arith, at .inv .1, at .inv .2, c .before .before .pre))
 
 pub lines-size-spec : {M : Type 1} → statement M
 lines-size-spec =
@@ -89,6 +94,8 @@ lines-size-spec =
     mul-line-size
     element-copy-out-line-size
     element-copy-out-line-size-2
+    mul-line-size-2
+    element-copy-out-line-size-3
     line-size-requires
     add-size
     add-i

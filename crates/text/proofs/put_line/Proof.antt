@@ -6,7 +6,9 @@ use mathlib.Core.List.{_∷_, _++_}
 use lib.ListN.{length}
 use Rattle.rules.specs.Collecting.{mostIds}
 use Rattle.out.specs.Text.{hexText}
-use Rattle.text.specs.Listing.{stateText, idsText, lineOf}
+use Rattle.text.specs.Listing.{stateText, idsText}
+use Rattle.text.specs.Confirmed.{lineWith}
+use Rattle.text.specs.Lines.{numberText}
 use Rattle.lists.specs.Stored.{pairsIn}
 use Rattle.lists.proofs.Pairs.{length-pairs-in}
 use Rattle.out.proofs.Runs.{puts-length, puts-as, puts-then}
@@ -34,14 +36,14 @@ put-requires : tie.Need-put-requires
 put-requires c κs = tt
 
 returns : tie.Need-returns
-unfolding lineOf shownAs setIn
+unfolding lineWith shownAs setIn
 returns c =
     let a = c .before .before .before .before .before .before .before .before .before .before .before .before .before .before .before .before .before .before .before .before .before .before .before .before .before .before .before .before .before .before .before .before .before .before .before .before .before .args in
-    let ns : length (a .t5 .numbers) ≡ mostIds = search needs in
-    let ks : length (a .t5 .kinds) ≡ mostIds = search needs in
-    let n : c .before .before .before .before .before .before .before .before .before .before .before .before .before .before .before .before .before .before .before .before .before .before .before .before .before .before .before .before .before .before .before .before .before .before .least .result ≡ length (pairsIn (a .t5 .kinds) (a .t5 .numbers) (a .t5 .len)) =
-    omega (arith, c .before .before .before .before .before .before .before .before .before .before .before .before .before .before .before .before .before .before .before .before .before .before .before .before .before .before .before .before .before .before .before .before .before .before .least .ensures, length-pairs-in (a .t5 .kinds) (a .t5 .numbers) (a .t5 .len)) in
-    let head = puts-as (ap (λ (k : ℕ). hexText 4 (a .key) ++ 32 ∷ stateText (a .on) ++ idsText k) n) (c .before .before .before .before .before .before .before .before .before .before .before .before .before .before .before .before .before .before .before .before .before .before .before .before .before .before .before .before .before .before .before .before .before .put-head .ensures) in
+    let ns : length (a .t7 .numbers) ≡ mostIds = search needs in
+    let ks : length (a .t7 .kinds) ≡ mostIds = search needs in
+    let n : c .before .before .before .before .before .before .before .before .before .before .before .before .before .before .before .before .before .before .before .before .before .before .before .before .before .before .before .before .before .before .before .before .before .before .least .result ≡ length (pairsIn (a .t7 .kinds) (a .t7 .numbers) (a .t7 .len)) =
+    omega (arith, c .before .before .before .before .before .before .before .before .before .before .before .before .before .before .before .before .before .before .before .before .before .before .before .before .before .before .before .before .before .before .before .before .before .before .least .ensures, length-pairs-in (a .t7 .kinds) (a .t7 .numbers) (a .t7 .len)) in
+    let head = puts-as (ap (λ (k : ℕ). hexText 4 (a .key) ++ 32 ∷ stateText (a .on) ++ (numberText (a .numbered) (a .block) ++ idsText k)) n) (c .before .before .before .before .before .before .before .before .before .before .before .before .before .before .before .before .before .before .before .before .before .before .before .before .before .before .before .before .before .before .before .before .before .put-head .ensures) in
     puts-then
     (puts-then (puts-then (puts-then head (c .before .before .before .before .before .before .before .before .before .before .before .before .before .before .before .before .before .before .before .before .before .before .before .before .put-pairs .ensures)) (c .before .before .before .before .before .before .before .before .before .before .before .before .before .before .before .put-mark .ensures)) (c .before .before .before .before .before .before .put-mark2 .ensures))
     (c .before .before .put .ensures)
