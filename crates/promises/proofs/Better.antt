@@ -72,12 +72,17 @@ full-count t fib (taken fs) r = refl
 full-count t fib (refused o p) r = refl
 full-count t fib noBlock r = absurd r
 
+-- what has not 32 bytes is no block
+pub short-verdict : (fib : List ℕ) → eqb (length fib) 32 ≡ false → verdict fib ≡ noBlock
+unfolding verdict
+short-verdict fib l = rw l
+
 pub after-count : (t : Content) (o : Operation) → afterOne t o .blocks ≡ countAfter (t .blocks) o
 unfolding afterOne countAfter isBlock readBlock forgotten
 after-count t (block fib) =
     cases-bool (eqb (length fib) 32)
     (λ l. rw l (full-count t fib (verdict fib) (full-refusal fib (eqb-true _ _ l))))
-    (λ l. rw l (ap (λ (v : Verdict). answerTo t v .left .blocks) (unfold verdict in rw l) ∙ unfold answerTo in refl))
+    (λ l. rw l (ap (λ (v : Verdict). answerTo t v .left .blocks) (short-verdict fib l) ∙ unfold answerTo in refl))
 after-count t (forgetting k) = refl
 
 -- a reception, its blocks numbered on

@@ -37,7 +37,7 @@ use Rattle.sheet.specs.declared.Loaded.{Loaded}
 use Rattle.sheet.specs.Loading.{Loads}
 use Rattle.promises.proofs.Contracts.{CopiesOut}
 use Rattle.promises.proofs.Answers.{Stores}
-use Rattle.promises.proofs.Better.{opIn, opOf, countAfter, after-count, opsOf, shows-run}
+use Rattle.promises.proofs.Better.{opIn, opOf, short-verdict, countAfter, after-count, opsOf, shows-run}
 use Rattle.promises.proofs.Calls.{afterAll}
 use Rattle.promises.proofs.Kept.{load-sheet-meets}
 use Rattle.promises.proofs.Receptions.{after-run}
@@ -68,20 +68,19 @@ said-number n [] j f h = none-some refl h
 said-number n (g ∷ fs) zero f h = let e : said n g ≡ f = cc in sym (ap (λ (x : Said linkage). x .stamp) e)
 said-number n (g ∷ fs) (suc j) f h = said-number n fs j f h
 
+in-block : (n j : ℕ) (f : Said linkage) (v : Verdict) → getElem? (saidIn linkage (opIn n v)) j ≡ some f → f .stamp ≡ n
+unfolding opIn saidIn
+in-block n j f (taken fs) h = said-number n fs j f h
+in-block n j f (refused o p) h = none-some refl h
+in-block n j f noBlock h = none-some refl h
+
 -- of an operation: it is a block of 32 bytes, and has its number
 op-number : (n : ℕ) (o : Operation) (j : ℕ) (f : Said linkage) → getElem? (saidIn linkage (opOf n o)) j ≡ some f → (f .stamp ≡ n) × (isBlock o ≡ true)
-unfolding opOf saidIn isBlock
-op-number n (block fib) j f =
+unfolding opOf opIn saidIn isBlock
+op-number n (block fib) j f h =
     cases-bool (eqb (length fib) 32)
-    (λ l h. (in-block (verdict fib) h, l))
-    (λ l. rw (none l) (λ h. none-some refl h))
-  where
-    none : eqb (length fib) 32 ≡ false → saidIn linkage (opIn n (verdict fib)) ≡ []
-    none l = unfold verdict opIn saidIn in rw l
-    in-block : (v : Verdict) → getElem? (saidIn linkage (opIn n v)) j ≡ some f → f .stamp ≡ n
-    in-block (taken fs) h = said-number n fs j f (unfold opIn saidIn in h)
-    in-block (refused o p) h = none-some refl (unfold opIn saidIn in h)
-    in-block noBlock h = none-some refl (unfold opIn saidIn in h)
+    (λ l. (in-block n j f (verdict fib) h, l))
+    (λ l. none-some (ap (λ (v : Verdict). getElem? (saidIn linkage (opIn n v)) j) (short-verdict fib l)) h)
 op-number n (forgetting k) j f h = none-some refl h
 
 field-number : (n : ℕ) (ops : List Operation) (i j : ℕ) (f : Said linkage) → n ≤ mostBlocks → fieldAt linkage (opsOf n ops) i j ≡ some f → f .stamp ≡ numberAt n ops i
