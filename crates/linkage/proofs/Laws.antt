@@ -6,7 +6,7 @@ use lib.ListN.{take}
 use Rattle.rules.specs.declared.Outcome.the-variants.{Done}
 use Rattle.rules.specs.Collecting.{nothing}
 use Rattle.rules.specs.Outcomes.{numberOf, readRecording}
-use Rattle.rules.proofs.TableRules.{meets-nil}
+use Rattle.rules.proofs.TableRules.{nothing-meets}
 use Rattle.rules.proofs.LinkageLaws.{recording-keeps}
 use Rattle.layout.proofs.Laws.{load-meets}
 use Rattle.table.specs.declared.Table.{Table}
@@ -26,7 +26,7 @@ pub recording-held : (r : Received) → Reading r → Holding (r .table) (r .res
 recording-held r a =
     record {
       content = readRecording nothing (a .bytes);
-      meets = recording-keeps nothing (a .bytes) (a .each) meets-nil;
+      meets = recording-keeps nothing (a .bytes) (a .each) nothing-meets;
       stored = a .table;
       came = ofRecording (a .bytes) refl (a .rest);
     }
