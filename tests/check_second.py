@@ -15,18 +15,20 @@ from itertools import groupby, product
 sys.dont_write_bytecode = True
 
 import cases
-from making import Dice, block, block_of, damaged, linking_fig, more, short, start, whole_list, with_check
+from counting import Counting
+from making import (Dice, block, block_of, damaged, linking_fig, long, more, short, start, state, whole_list,
+                    with_check)
 from material import (BAD_SHEETS, DAB, DRM, GOOD_SHEETS, RDS, faulty_block, largest_sheet, long_sheet, many_sets,
                       most_pieces, random_figs, random_keys, random_pairs, sheet_bytes)
 from places import COUNTED, PLACES, random_planned
-from second import air, sheet, spoil, stored
+from second import air, columns, sheet, spoil, stored
 from second.block import check_of, check_passes
 from second.check import report, report_text
 from second.field import NAME, examine
-from second.listing import listing
+from second.listing import listing, table_of
 from second.replay import Replay, run
-from second.table import (SHOWN_AND_OPENED, Entry, IdList, collect, copy_out, drop_open_lists, forget, meets_rules,
-                          read_block, shown_sets)
+from second.table import (LAST_BLOCK, SHOWN_AND_OPENED, Entry, IdList, Table, collect, copy_out, count_block,
+                          drop_open_lists, forget, meets_rules, read_block, shown_sets)
 from second.totals import totals_text
 
 EXAMPLE = block_of("08 06 E0 04 22 44 B1 44 B1")
@@ -49,12 +51,13 @@ def random_ids(dice, key):
 
 
 def random_table(dice, most=32):
-    """A table that meets the rules, with entries of every sort."""
-    table = {}
+    """A table that meets the rules, with entries of every sort, and any count."""
+    table = Table(blocks=dice.pick([0, 1, 7, dice.below(1000), dice.word(), LAST_BLOCK - 1, LAST_BLOCK]))
     for key in random_keys(dice, dice.between(0, most)):
         shown = random_ids(dice, key) if dice.chance(70) else None
         opened = random_ids(dice, key) if dice.chance(50) else None
-        table[key] = Entry(dice.chance(50), shown, opened)
+        number = dice.pick([0, table.blocks, dice.below(table.blocks + 1)]) if shown else 0
+        table[key] = Entry(dice.chance(50), shown, opened, number)
     return table
 
 
@@ -103,39 +106,39 @@ def block_check():
 
 def examples():
     """Document 01, Examples: what it says of each, typed in by hand."""
-    once, both = "2004 on shown - open 1 D44B1 R44B1", "2004 on shown 1 D44B1 R44B1 open 1 D44B1 R44B1"
-    none = "2004 on shown - open -"
-    off = "2004 off shown 1 D44B1 R44B1 open 1 D44B1 R44B1"
+    once, both = "2004 on #0 shown - open 1 D44B1 R44B1", "2004 on #2 shown 1 D44B1 R44B1 open 1 D44B1 R44B1"
+    none = "2004 on #0 shown - open -"
+    off = "2004 off #2 shown 1 D44B1 R44B1 open 1 D44B1 R44B1"
     for number, blocks, answers in (
-            (1, [EXAMPLE], ["b 0 1", "t 1", once]),
-            (2, [EXAMPLE] * 2, ["b 0 1", "b 0 2", "t 1", both]),
-            (3, [EXAMPLE] * 2 + [block_of("03 06 20 04")], ["b 0 1", "b 0 2", "b 0 7", "t 1", off]),
-            (4, [EXAMPLE, damaged(EXAMPLE), EXAMPLE], ["b 0 1", "b 2 @0", "b 0 1", "t 1", once]),
-            (5, [block_of("FF")], ["b 0", "t 0"]),
-            (6, [EXAMPLE, block_of("00")], ["b 0 1", "b 3 @0", "t 1", none]),
-            (7, [EXAMPLE, block_of("02 06 20")], ["b 0 1", "b 4 @2", "t 1", none]),
-            (8, [EXAMPLE, block_of("03 06 20 00")], ["b 0 1", "b 5 @2", "t 1", none]),
-            (9, [EXAMPLE, block_of("04 06 E0 04 00")], ["b 0 1", "b 6 @2", "t 1", none]),
-            (10, [block_of("04 26 36 E0 04"), block_of("04 26 36 E0 04 00")], ["b 4 @4", "b 3 @5", "t 0"]),
-            (11, [EXAMPLE, EXAMPLE[:31]], ["b 0 1", "b 1 @0", "t 1", once]),
-            (12, [with_check(b"\x1d\x01".ljust(30, b"\x11"))], ["b 0", "t 0"]),
-            (13, [with_check(b"\x1e\x01".ljust(30, b"\x11"))], ["b 3 @0", "t 0"])):
+            (1, [EXAMPLE], ["b 0 1", "t 1 #1", once]),
+            (2, [EXAMPLE] * 2, ["b 0 1", "b 0 2", "t 1 #2", both]),
+            (3, [EXAMPLE] * 2 + [block_of("03 06 20 04")], ["b 0 1", "b 0 2", "b 0 7", "t 1 #3", off]),
+            (4, [EXAMPLE, damaged(EXAMPLE), EXAMPLE], ["b 0 1", "b 2 @0", "b 0 1", "t 1 #3", once]),
+            (5, [block_of("FF")], ["b 0", "t 0 #1"]),
+            (6, [EXAMPLE, block_of("00")], ["b 0 1", "b 3 @0", "t 1 #2", none]),
+            (7, [EXAMPLE, block_of("02 06 20")], ["b 0 1", "b 4 @2", "t 1 #2", none]),
+            (8, [EXAMPLE, block_of("03 06 20 00")], ["b 0 1", "b 5 @2", "t 1 #2", none]),
+            (9, [EXAMPLE, block_of("04 06 E0 04 00")], ["b 0 1", "b 6 @2", "t 1 #2", none]),
+            (10, [block_of("04 26 36 E0 04"), block_of("04 26 36 E0 04 00")], ["b 4 @4", "b 3 @5", "t 0 #2"]),
+            (11, [EXAMPLE, EXAMPLE[:31]], ["b 0 1", "b 1 @0", "t 1 #1", once]),
+            (12, [with_check(b"\x1d\x01".ljust(30, b"\x11"))], ["b 0", "t 0 #1"]),
+            (13, [with_check(b"\x1e\x01".ljust(30, b"\x11"))], ["b 3 @0", "t 0 #1"])):
         script = "".join("b %s\n" % data.hex() for data in blocks) + "t\n"
         assert run(script.encode()) == answers, number
-    table = {}                                                                      # 13
+    table = Table()                                                                 # 13
     read_all(table, whole_list(0x2004, 1, [(DAB, number) for number in range(127)]))
     assert read_block(table, more(0x2004, 1, DAB, [500])) == (0, 0, [3]) and len(table[0x2004].open.pairs) == 128
     assert read_block(table, more(0x2004, 1, DAB, [501])) == (0, 0, [6]) and table[0x2004].open is None
-    table = {}                                                                      # 14
+    table = Table()                                                                 # 14
     read_all(table, [start(0x2001 + place, 1, DAB, [1]) for place in range(32)])
     assert read_block(table, start(0x2021, 1, DAB, [1])) == (0, 0, [5]) and 0x2021 not in table
     assert forget(table, 0x2001) == 0
     assert read_block(table, start(0x2021, 1, DAB, [1])) == (0, 0, [1]) and 0x2021 in table
-    table = {}                                                                      # 15
+    table = Table()                                                                 # 15
     read_all(table, [EXAMPLE] * 2)
     written = bytes.fromhex("01 84 40 01 01 02 00 B1 89 01 01 B1 89 01")
     assert sheet.sheet_of(shown_sets(table)) == written
-    assert sheet.load(b"\x81\0" + written[1:]) == (10, {})
+    assert sheet.load(b"\x81\0" + written[1:]) == (10, Table())
     assert listing(EXAMPLE * 2) == ["sets 1", "2004 on ids 2 D44B1 R44B1"]          # 16
     assert listing(b"") == ["sets 0"]
     return "1 to 16"
@@ -144,7 +147,7 @@ def examples():
 def decided_points():
     """Points of document 01 that can be misread, each as it is to be read."""
     key, full = 0x2004, [(DAB, number) for number in range(128)]
-    table = {}                              # repeated pairs do not count towards 128
+    table = Table()                         # repeated pairs do not count towards 128
     read_all(table, whole_list(key, 1, full))
     assert read_block(table, more(key, 0, DAB, list(range(12)))) == (0, 0, [3]) and table[key].open.pairs == full
     assert not table[key].on
@@ -158,10 +161,10 @@ def decided_points():
     assert air.pieces_of(key, one) == [(False, DAB, [5]), (True, RDS, []), (True, DRM, [])]
     run_of = IdList([(DAB, 99)] + [(RDS, number) for number in range(13)], 1)
     assert [len(numbers) for _, _, numbers in air.pieces_of(key, run_of)] == [12, 2]
-    table = {}                              # a start names its own qualifier's kind alone
+    table = Table()                         # a start names its own qualifier's kind alone
     read_all(table, [start(key, 1, RDS, [5]), more(key, 1, DRM, []), start(key, 1, DRM, [5])])
     assert table[key].shown.named == 3 and table[key].open.named == 2
-    assert sheet.load(b"") == (10, {}) and sheet.load(b"\0") == (0, {})
+    assert sheet.load(b"") == (10, Table()) and sheet.load(b"\0") == (0, Table())
     return "repeated pairs, names, held without lists, one identifier"
 
 
@@ -170,7 +173,7 @@ def other_ensemble():
     tuned, other = block_of("08 06 C1 00 22 65 11 6B 11"), block_of("08 46 C1 00 22 65 11 6B 11")
     both = listing((tuned + other) * 2)
     assert both == ["sets 2", "0100 on ids 2 D6511 R6B11", "8100 on ids 2 R6511 R6B11"]
-    table = {}
+    table = Table()
     read_all(table, [tuned, other] * 2)
     assert air.blocks_of(shown_sets(table)) == [tuned, other]
     written = bytes.fromhex("02 8002 01 01 02 00 91CA01 01 91D601 808202 01 01 02 01 91CA01 01 91D601")
@@ -182,7 +185,7 @@ def other_ensemble():
             (0x8100, 0, [(DAB, 5)], 0), (0x8100, 1, [(DAB, 5), (RDS, 5)], 0), (0xC100, 0, [(DAB, 5)], 0),   # old ones
             (0xC100, 1, [(RDS, 5)], 10), (0xC100, 0, [(RDS, 5)], 10)):                              # P/D 1
         ids = IdList(pairs, named)
-        for table in ({key: Entry(True, ids)}, {key: Entry(True, None, ids)}):
+        for table in (Table({key: Entry(True, ids)}), Table({key: Entry(True, None, ids)})):
             assert meets_rules(table) == (outcome == 0), (key, pairs)
             assert stored.fetch(stored.store(table)) == (None if outcome else table), (key, pairs)
         assert sheet.load(sheet.sheet_of([(key, Entry(True, ids))]))[0] == outcome, (key, pairs)
@@ -192,7 +195,7 @@ def other_ensemble():
     cut = [(kind, len(numbers)) for _, kind, numbers in air.pieces_of(0x8100, long_run)]
     assert cut == [(RDS, 12), (RDS, 1), (DAB, 1), (DRM, 0)]
     assert examine(block_of("04 46 C1 00 20"))[:2] == (6, 2)        # an empty start is one with OE 1 too
-    table = {}                              # a continuation is of its own kind, with OE 1 as with OE 0
+    table = Table()                         # a continuation is of its own kind, with OE 1 as with OE 0
     read_all(table, [start(0x8100, 1, DRM, [5, 5, 6]), more(0x8100, 1, RDS, [5]), more(0x8100, 1, DRM, [6, 5, 7])])
     assert table[0x8100].open == IdList([(DRM, 5), (DRM, 6), (RDS, 5), (DRM, 7)], 3)
     return "reading, writing, sheet, rules"
@@ -275,7 +278,7 @@ def counted_places():
     for text, outcome, place in COUNTED:
         data = block_of(text)
         assert examine(data)[:2] == bits_examine(data)[:2] == (outcome, place), text
-        assert read_block({}, data)[:2] == (outcome, place), text
+        assert read_block(Table(), data)[:2] == (outcome, place), text
         answer = run(b"b " + data.hex().encode())
         assert answer == ["b 0" if outcome == 0 else "b %d @%d" % (outcome, place)], text
         met.add(outcome)
@@ -346,30 +349,34 @@ def random_reports():
 
 
 def plain_entry(recording, key):
-    """What is held of a key after a recording, from its fields alone and without a table.
+    """What is held of a key after a recording of whole blocks, from its fields alone and without a table.
 
     Held: the key is among the first 32 that are started.  Open: the list of
     the latest start, if nothing ended it.  Shown: the list of the latest
-    start whose list still stood at the next start.
+    start whose list still stood at the next start; its number is that of the
+    block with that next one.
     """
-    started, history = [], []               # history: fields of the key, and None for a refused block
-    for data in recording:
+    started = []
+    history, where = [], []                 # fields of the key, None for a refused block; and their blocks
+    for number, data in enumerate(recording, 1):
         outcome, _, fields = examine(data)
         if outcome >= 2:
             history.append(None)
+            where.append(number)
         for field in fields:
             is_start = field.mark is not None and not field.continued
             if is_start and field.key not in started:
                 started.append(field.key)
             if field.key == key and key in started[:32]:
                 history.append(field)
+                where.append(number)
     if key not in started[:32]:
         return None
     states = [field.on for field in history if field]
     starts = [place for place, field in enumerate(history) if field and field.mark is not None and not field.continued]
     lists = [plain_list(history[begin:end]) for begin, end in zip(starts, starts[1:] + [len(history)])]
-    whole = [ids for ids in lists[:-1] if ids]
-    return Entry(states[-1], whole[-1] if whole else None, lists[-1])
+    whole = [(ids, where[end]) for ids, end in zip(lists, starts[1:]) if ids] or [(None, 0)]
+    return Entry(states[-1], whole[-1][0], lists[-1], whole[-1][1])
 
 
 def plain_list(history):
@@ -403,9 +410,10 @@ def plain_reader():
                 recording += [more(keys[0], 1, DAB, [dice.below(200) for _ in range(6)]) for _ in range(60)]
                 recording.insert(150, start(keys[0], 1, DAB, [1]))
                 recording += [start(keys[0], 1, DAB, [1])]
-            table = {}
+            table = Table()
             for data in recording:
                 read_block(table, data)
+            assert table.blocks == len(recording)
             for key in keys:
                 assert table.get(key) == plain_entry(recording, key), "%X" % key
             shown += len(shown_sets(table))
@@ -430,7 +438,7 @@ def air_read_back():
     for table in tables:
         assert meets_rules(table)
         blocks = air.blocks_of(shown_sets(table))
-        again = {}
+        again = Table()
         read_all(again, blocks)
         assert not shows(again)
         read_all(again, blocks)
@@ -441,7 +449,7 @@ def air_read_back():
 
 
 def sheets_back():
-    """A sheet loads to what the table shows and is written again equal; equal sheets, equal showing."""
+    """A sheet loads to what the table shows, without numbers, and is written again equal; equal sheets, equal sets."""
     dice = Dice(5)
     tables = corner_tables() + [random_table(dice, dice.pick([1, 3, 32])) for _ in range(150)]
     seen = {}
@@ -449,7 +457,7 @@ def sheets_back():
         data = sheet.sheet_of(shown_sets(table))
         again = loaded(data)
         assert meets_rules(again) and shows(again) == shows(table)
-        assert all(entry.open is None for entry in again.values())
+        assert all(entry.open is None and entry.confirmed == 0 for entry in again.values()) and again.blocks == 0
         assert sheet.sheet_of(shown_sets(again)) == data
         assert seen.setdefault(data, shows(table)) == shows(table)
     return "%d tables" % len(tables)
@@ -507,7 +515,7 @@ def sheets_accepted():
     for data in samples:
         outcome, table = sheet.load(data)
         assert outcome == (0 if strict_sheet(data) else 10), data.hex()
-        assert outcome == 0 or table == {}
+        assert outcome == 0 or table == Table()
         accepted += outcome == 0
         refused += outcome == 10
     assert accepted > 300 and refused > 300
@@ -534,7 +542,7 @@ def rules_kept():
 
 
 def refusals():
-    """A block refused with 2 to 6 drops open lists and nothing else; other refusals change nothing."""
+    """A block refused with 2 to 6 drops open lists, is counted, and nothing else; other refusals change nothing."""
     dice = Dice(8)
     met = set()
     for _ in range(400):
@@ -549,6 +557,7 @@ def refusals():
         assert outcome and not notes and (place == 0 if outcome <= 2 else place in PLACES[outcome])
         if outcome >= 2:
             drop_open_lists(before)
+            before.blocks += before.blocks < 4294967295
         assert table == before
         key = dice.pick(keys)
         numbers, kinds = [7] * dice.below(5), bytearray([7]) * dice.below(5)
@@ -607,7 +616,7 @@ def every_small_set():
         pieces = air.pieces_of(key, ids)
         assert [(kind, len(numbers)) for _, kind, numbers in pieces] == runs + dead, (key, kinds, named)
         most[key >> 15, len(kinds)] = max(most[key >> 15, len(kinds)], len(pieces))
-        table, again = {key: Entry(True, ids)}, {}
+        table, again = Table({key: Entry(True, ids)}), Table()
         assert meets_rules(table) and loaded(sheet.sheet_of(shown_sets(table))) == table
         read_all(again, air.blocks_of(shown_sets(table)) * 2)
         assert shows(again) == shows(table)
@@ -631,7 +640,7 @@ def totals_by_hand():
         assert run(script.encode())[count:] == ["totals " + figures]
     script = ["b " + data.hex() for data in (EXAMPLE, EXAMPLE, block_of("03 06 20 04"), damaged(EXAMPLE))]
     script += ["totals", "x 22", "totals", "u", "totals", "f 2004", "totals", "l 01844001010200B1890101B18901"]
-    script += ["totals", "totals 1", "totals ", "x 21", "x 25", "totals", "l", "totals", "x 24", "totals", "t", "e"]
+    script += ["totals", "totals 1", "totals ", "x 21", "x 27", "totals", "l", "totals", "x 24", "totals", "t", "e"]
     assert run("\n".join(script + ["totals"]).encode()) == [
         "b 0 1", "b 0 2", "b 0 7", "b 2 @0", "totals 1 0 2", "x", "totals 9", "u", "totals 1 0 2", "f 0",
         "totals 0 0 0", "l 0", "totals 1 1 2", "?", "?", "?", "?", "totals 1 1 2", "l 10", "totals 0 0 0", "x",
@@ -641,9 +650,9 @@ def totals_by_hand():
         recording = b"".join(cases.swiss_cycle(0x4001, regional))
         assert totals_text(recording * 2) == line and totals_text(recording) == "shown 0, on 0, identifiers 0\n"
         assert totals_text(recording * 2 + b"12345") == line
-    table = {0x2001: Entry(True), 0x2002: Entry(True, None, IdList([(DAB, 1), (DAB, 2)])),
-             0x2003: Entry(True, IdList([(DAB, 1)], 3), IdList([(DAB, 1), (DAB, 2)])),
-             0x2004: Entry(False, IdList([(DAB, 1), (RDS, 1), (DRM, 1)], 3))}
+    table = Table({0x2001: Entry(True), 0x2002: Entry(True, None, IdList([(DAB, 1), (DAB, 2)])),
+                   0x2003: Entry(True, IdList([(DAB, 1)], 3), IdList([(DAB, 1), (DAB, 2)])),
+                   0x2004: Entry(False, IdList([(DAB, 1), (RDS, 1), (DRM, 1)], 3))})
     assert figures_of(stored.store(table)) == (2, 1, 4)
     assert figures_of(stored.store(loaded(largest_sheet()))) == (32, 16, 4096)
     return "examples, a rest, held keys, open lists, dead links"
@@ -651,7 +660,7 @@ def totals_by_hand():
 
 def counted(lines):
     """The figures of a printed table, by the form of its lines."""
-    rows = [re.fullmatch("[0-9A-F]{4} (on|off) shown (?:-|[0-3]((?: [DRM][0-9A-F]+)+)) open .*", line).groups()
+    rows = [re.fullmatch("[0-9A-F]{4} (on|off) #[0-9]+ shown (?:-|[0-3]((?: [DRM][0-9A-F]+)+)) open .*", line).groups()
             for line in lines[1:]]
     rows = [(on, ids.split()) for on, ids in rows if ids]
     return len(rows), len([on for on, _ in rows if on == "on"]), len([number for _, ids in rows for number in ids])
@@ -729,17 +738,185 @@ def wrong_figures():
                 forms += 1
             refused_by_all(bad)
     one = IdList([(DAB, 1)])                # the figures say how many, not which
-    table = {0x2001: Entry(True, one), 0x2002: Entry(False, one)}
-    other = {0x2001: Entry(False, one), 0x2002: Entry(True, one)}
+    table = Table({0x2001: Entry(True, one), 0x2002: Entry(False, one)})
+    other = Table({0x2001: Entry(False, one), 0x2002: Entry(True, one)})
     assert figures_of(stored.store(table)) == figures_of(stored.store(other)) == (2, 1, 2)
     return "%d forms" % forms
+
+
+# Numbers
+
+
+def numbers_by_hand():
+    """Document 02, R-9: the count and the numbers of an example, typed in by hand, and where the count stops."""
+    shown, both = "shown 1 D44B1 R44B1 open -", "shown 1 D44B1 R44B1 open 1 D44B1 R44B1"
+    good, bad, short_one = ("b " + data.hex() for data in (EXAMPLE, damaged(EXAMPLE), EXAMPLE[:31]))
+    lines = []
+    for line, *answers in (
+            ("t", "t 0 #0"), (good, "b 0 1"), (bad, "b 2 @0"), (short_one, "b 1 @0"), (good, "b 0 1"), (good, "b 0 2"),
+            ("t", "t 1 #4", "2004 on #4 " + both), ("c 2004 2 2", "c 0 2004 on 1 #4 D44B1 R44B1 kept"),
+            ("f 2004", "f 0"), ("t", "t 0 #4"), (good, "b 0 1"), (good, "b 0 2"), (bad, "b 2 @0"),
+            ("t", "t 1 #7", "2004 on #6 " + shown), ("s 14", "s 0 01844001010200B1890101B18901 kept"),
+            ("l 01844001010200B1890101B18901", "l 0"), ("t", "t 1 #0", "2004 on #0 " + shown),
+            ("c 2004 2 2", "c 0 2004 on 1 #0 D44B1 R44B1 kept"), (good, "b 0 1"), (good, "b 0 2"), (good, "b 0 2"),
+            ("t", "t 1 #3", "2004 on #3 " + both), ("x 26", "x ?"), ("x 25", "x"), ("t", "t 9"), (good, "b 9 @0"),
+            ("count 3", "count"), ("t", "t 9"), ("count 4", "count"), ("t", "t 1 #4", "2004 on #4 " + both),
+            ("u", "u"), ("t", "t 1 #3", "2004 on #3 " + both), ("count 2", "count"), ("t", "t 9"), ("f 2004", "f 9"),
+            ("c 2004 2 2", "c 9 kept"), ("s 14", "s 9 kept"), ("a 32", "a 9 kept"), (bad, "b 9 @0"),
+            ("totals", "totals 9"), ("count 4294967294", "count"), ("t", "t 1 #4294967294", "2004 on #3 " + both),
+            (good, "b 0 2"), ("t", "t 1 #4294967295", "2004 on #4294967295 " + both), ("x 25", "x ?"),
+            (bad, "b 2 @0"), (good, "b 0 1"), (good, "b 0 2"),
+            ("t", "t 1 #4294967295", "2004 on #4294967295 " + both), ("count 4294967296", "?"),
+            ("count", "?"), ("count 00000000001", "?"), ("x 27", "?"), ("l", "l 10"), ("t", "t 0 #0"), (good, "b 0 1"),
+            ("x 25", "x ?"), ("x 26", "x"), ("t", "t 9"), ("count 9", "count"), ("t", "t 9"), ("u", "u"),
+            ("t", "t 1 #1", "2004 on #0 shown - open 1 D44B1 R44B1"), ("e", "e"), ("t", "t 0 #0")):
+        lines.append(line)
+        assert run("\n".join(lines).encode())[-len(answers):] == answers, (line, answers)
+    recording = EXAMPLE + damaged(EXAMPLE) + EXAMPLE * 3 + block_of("00") + b"12345"
+    assert listing(recording, True) == ["sets 1 blocks 6", "2004 on #5 ids 2 D44B1 R44B1", "tail 5"]
+    assert listing(b"", True) == ["sets 0 blocks 0"] and listing(b"1", True) == ["sets 0 blocks 0", "tail 1"]
+    assert listing(EXAMPLE + damaged(EXAMPLE), True) == ["sets 0 blocks 2"]
+    rows = ["2004 | on    | 44B1      |           |           | 5         ",
+            "2004 | on    |           | 44B1      |           | 5         "]
+    head = "set  | state | DAB       | FM (RDS)  | DRM/AMSS  | block     "
+    text = columns.table_text(table_of(recording), columns.OF_A_RECORDING)
+    assert text.split("\n") == [head, "-" * 61, *rows, "-" * 61, ""]
+    text = columns.csv_text(table_of(recording), columns.OF_A_RECORDING)
+    assert text == "set,state,DAB,FM (RDS),DRM/AMSS,block\n0x2004,on,0x44B1,,,5\n0x2004,on,,0x44B1,,5\n"
+    return "examples, loads, the stop, a bad count, listing, columns"
+
+
+def showings_by_hand():
+    """The number is that of the showing; several in a block; what leaves it; it goes with its key."""
+    table = Table()
+    one, two = start(0x2004, 1, DAB, [1]), start(0x2004, 0, DAB, [1])
+    for data, number in ((one, 0), (more(0x2004, 1, DAB, [2]), 0), (two, 3), (state(0x2004, 1), 3), (two, 5), (two, 6),
+                         (damaged(two), 6), (two[:31], 6), (more(0x2004, 1, DAB, [2]), 6), (one, 6), (one, 10)):
+        read_block(table, data)
+        assert table[0x2004].confirmed == number, (data.hex(), number)
+    field = long(0x2003, 1, DAB, [1])
+    read_all(table, [block(linking_fig(0, 0, 0, field, field, field))])
+    assert (table[0x2003].confirmed, table[0x2004].confirmed, table.blocks) == (11, 10, 11)
+    assert forget(table, 0x2003) == 0 and (table[0x2004].confirmed, table.blocks) == (10, 11)
+    read_all(table, [start(0x2003, 1, DAB, [1])])
+    assert (table[0x2003].confirmed, table[0x2004].confirmed, table.blocks) == (0, 10, 12)
+    read_all(table, whole_list(0x2003, 1, [(DAB, number) for number in range(128)]))
+    assert table[0x2003].confirmed == 13 and table.blocks == 23         # eleven blocks; the first of them shows
+    assert read_block(table, more(0x2003, 1, DAB, [500])) == (0, 0, [6])
+    assert read_block(table, start(0x2003, 1, DAB, [1])) == (0, 0, [1]) and table[0x2003].confirmed == 13
+    assert read_block(table, start(0x2003, 1, DAB, [1])) == (0, 0, [2]) and table[0x2003].confirmed == 26
+    for place in range(31):
+        read_all(table, [start(0x3001 + place, 1, DAB, [1])])
+    assert len(table) == 32 and table.blocks == 57 and 0x301F not in table
+    return "starts, continuations, states, refused blocks, too long, full"
+
+
+def numbers_kept():
+    """After any command the count and the numbers are those that the answers to the blocks give."""
+    dice = Dice(19)
+    met = Counter()
+    for count in (1, 2, 5, 12, 33, 60):
+        replay, counting, keys = Replay(), Counting(), random_keys(dice, count)
+        for _ in range(200):
+            what = dice.below(24)
+            if what < 16:
+                line = "b " + random_block(dice, keys, 12)[:32 if what else 20].hex()
+            elif what < 19:
+                line = "f %X" % dice.pick(keys)
+            elif what < 20:
+                line = "l " + sheet.sheet_of(shown_sets(random_table(dice, 3))).hex()
+            elif what < 22:
+                line = "count %d" % dice.pick([dice.below(50), dice.below(500), 4294967290, 4294967295, 4294967295])
+            else:
+                line = "c %X 128 128" % dice.pick(keys)
+            for text in (line, "t"):
+                met.update(counting.saw(text, replay.answer(text.encode())))
+    assert met.keys() >= {"b %d is counted" % outcome for outcome in (0, 2, 3, 4, 5, 6)}, met
+    assert min(met[what] for what in ("b 1 is not counted", "b 9 is not counted", "b 0 at the stop", "shown",
+                                      "shown again", "shown twice in a block", "shown at the stop")) > 5, met
+    return "1200 commands, %d showings again" % met["shown again"]
+
+
+def numbers_of_recordings():
+    """What is printed of a recording with numbers, against the reader that keeps no table; and without them."""
+    dice = Dice(20)
+    sets = 0
+    for count in (1, 2, 4, 10, 40):
+        for _ in range(4):
+            keys = random_keys(dice, count)
+            recording = [random_block(dice, keys, 4) for _ in range(120)]
+            numbers = {key: entry.confirmed for key, entry in ((key, plain_entry(recording, key)) for key in keys)
+                       if entry and entry.shown}
+            data = b"".join(recording) + bytes(dice.below(3))
+            first, *lines = listing(data, True)
+            rows = [re.fullmatch("([0-9A-F]{4} (?:on|off)) #([1-9][0-9]*) (ids .*)", line).groups()
+                    for line in lines[:len(numbers)]]
+            assert first == "sets %d blocks 120" % len(numbers)
+            assert {int(head[:4], 16): int(number) for head, number, _ in rows} == numbers
+            assert listing(data) == (["sets %d" % len(numbers)] + ["%s %s" % (head, ids) for head, _, ids in rows]
+                                     + lines[len(numbers):])
+            table = table_of(data)
+            again = loaded(sheet.sheet_of(shown_sets(table)))
+            rows = columns.csv_text(table, columns.OF_A_RECORDING).splitlines()
+            assert all(int(row.split(",")[5]) == numbers[int(row[:6], 16)] for row in rows[1:])
+            assert columns.csv_text(again, columns.OF_A_SHEET).splitlines() == [row.rsplit(",", 1)[0] for row in rows]
+            rows = columns.table_text(table, columns.OF_A_RECORDING).splitlines()
+            assert columns.table_text(again, columns.OF_A_SHEET).splitlines() == [row[:48] for row in rows]
+            assert all(row == "-" * 61 or int(row[51:]) == numbers[int(row[:4], 16)] for row in rows[1:])
+            assert all(row == "-" * 61 or len(row) == 61 and row[48:51] == " | " for row in rows)
+            sets += len(numbers)
+    assert sets > 100
+    return "%d sets" % sets
+
+
+def wrong_numbers():
+    """A number above the count, or without a shown set, is 9 for every command; any other is a good one."""
+    dice = Dice(21)
+    good = bad = 0
+    for _ in range(30):
+        table = random_table(dice, dice.pick([0, 1, 3, 32]))
+        form = stored.store(table)
+        for place in (0, 1, 2, 31, max(0, len(table) - 1), min(31, len(table))):
+            right = form.entries[place].confirmed
+            for value in {0, 1, right + 1, table.blocks, table.blocks + 1, LAST_BLOCK} - {LAST_BLOCK + 1}:
+                form.entries[place].confirmed = value
+                is_good = value <= (table.blocks if form.entries[place].shown.length else 0)
+                assert (stored.fetch(form) is not None) == is_good, (place, value)
+                good, bad = good + is_good, bad + (not is_good)
+                if not is_good and dice.chance(5):
+                    refused_by_all(form)
+            form.entries[place].confirmed = right
+        largest = max((entry.confirmed for entry in table.values()), default=0)
+        for value in {0, largest - 1, largest, largest + 1, LAST_BLOCK} - {-1, LAST_BLOCK + 1}:
+            form.blocks = value
+            assert (stored.fetch(form) is not None) == (value >= largest), value
+        form.blocks = table.blocks
+        assert stored.fetch(form) == table
+    assert good > 100 and bad > 300
+    return "%d good, %d answered 9" % (good, bad)
+
+
+def numbers_not_shown():
+    """Tables that differ in count and numbers alone show the same: equal sheets, blocks for air and totals."""
+    dice = Dice(22)
+    for _ in range(60):
+        table = random_table(dice, dice.pick([1, 3, 32]))
+        other = copy.deepcopy(table)
+        other.blocks = dice.word()
+        for entry in other.values():
+            entry.confirmed = dice.below(other.blocks + 1) if entry.shown else 0
+        assert meets_rules(other) and stored.fetch(stored.store(other)) == other
+        assert shows(other) == shows(table) and air.blocks_of(shown_sets(other)) == air.blocks_of(shown_sets(table))
+        assert sheet.sheet_of(shown_sets(other)) == sheet.sheet_of(shown_sets(table))
+        assert figures_of(stored.store(other)) == figures_of(stored.store(table))
+    return "60 tables"
 
 
 # Demand 3
 
 
 def showings(table, recording):
-    """(item, field) where a set comes to be shown, with what is shown; items are blocks or keys to forget."""
+    """(item, field) where a set comes to be shown, with what is shown, its number last; items are blocks or keys."""
     table = copy.deepcopy(table)
     found = {}
     for item, what in enumerate(recording):
@@ -747,12 +924,14 @@ def showings(table, recording):
             forget(table, what)
             continue
         outcome, _, fields = examine(what)
+        if outcome != 1:
+            count_block(table)
         if outcome >= 2:
             drop_open_lists(table)
         for place, field in enumerate(fields):
             if collect(table, field) == SHOWN_AND_OPENED:
                 entry = table[field.key]
-                found[item, place] = (field.key, entry.on, entry.shown.named, tuple(entry.shown.pairs))
+                found[item, place] = (field.key, entry.on, entry.shown.named, tuple(entry.shown.pairs), entry.confirmed)
     return found
 
 
@@ -781,9 +960,9 @@ def arrives_well(what):
 
 
 def better_and_worse():
-    """What the worse reception comes to show at a field, the better one shows there too."""
+    """What the worse reception comes to show at a field, the better one shows there too, with the same number."""
     dice = Dice(10)
-    compared = most = 0
+    compared = most = stopped = 0
     for _ in range(120):
         table = random_table(dice, dice.pick([0, 2, 8]))
         keys = random_keys(dice, dice.pick([1, 2, 4, 32 - len(table)])) + sorted(table)
@@ -797,8 +976,9 @@ def better_and_worse():
         for place, what in showings(table, worse).items():
             assert shown.get(place) == what
             compared += 1
-    assert compared > 1000 and most == 32
-    return "%d showings compared, up to %d keys" % (compared, most)
+            stopped += what[-1] == 4294967295
+    assert compared > 1000 and most == 32 and stopped > 100
+    return "%d showings compared, %d where the count had stopped, up to %d keys" % (compared, stopped, most)
 
 
 def where_it_fails():
@@ -806,18 +986,19 @@ def where_it_fails():
     starts = [start(0x2001 + place, 1, DAB, [1]) for place in range(33)]
     better = starts + starts[32:]           # counting only starts that open a list
     worse = [damaged(better[0])] + better[1:]
-    assert len(started(better)) == 33 and (33, 0) in showings({}, worse) and (33, 0) not in showings({}, better)
+    assert len(started(better)) == 33
+    assert (33, 0) in showings(Table(), worse) and (33, 0) not in showings(Table(), better)
     first, second = start(0x2004, 1, DAB, [1]), start(0x2004, 1, DAB, [2])
-    good, bad = {}, {}                      # the state after a field instead of what happens at it
+    good, bad = Table(), Table()            # the state after a field instead of what happens at it
     for data in (first, first, second, second):
         read_block(good, data)
     for data in (first, first, damaged(second), second):
         read_block(bad, data)
     assert shows(bad) and shows(bad) != shows(good)
     added = more(0x2004, 1, DAB, [2])       # a block that is missing instead of failing
-    last = showings({}, [first, first, first, added, first])[4, 0]
-    assert showings({}, [first, first, first, first])[3, 0] != last
-    assert (4, 0) not in showings({}, [first, first, first, damaged(added), first])
+    last = showings(Table(), [first, first, first, added, first])[4, 0]
+    assert showings(Table(), [first, first, first, first])[3, 0][:-1] != last[:-1]
+    assert (4, 0) not in showings(Table(), [first, first, first, damaged(added), first])
     return "three counterexamples"
 
 
@@ -857,7 +1038,7 @@ def any_stored_form():
             ids = dice.pick([entry.shown, entry.open])
             place = dice.pick([0, 1, 2, 127, dice.below(128)])
             value = dice.pick([0, 1, 2, 3, 4, 129, 255, dice.below(65536)])
-            what = dice.below(8)
+            what = dice.below(10)
             if what == 0:
                 entry.key = value
             elif what == 1:
@@ -872,6 +1053,10 @@ def any_stored_form():
                 ids.named = value & 255
             elif what == 6:
                 setattr(form, dice.pick(["shown", "on", "identifiers"]), value)
+            elif what == 7:
+                entry.confirmed = dice.pick([value, form.blocks, min(form.blocks + 1, LAST_BLOCK)])
+            elif what == 8:
+                form.blocks = dice.pick([value, entry.confirmed, LAST_BLOCK])
             else:
                 form.count = value
         if dice.chance(50):
@@ -889,8 +1074,8 @@ def any_line():
     dice = Dice(12)
     replay = Replay()
     for _ in range(3000):
-        words = [dice.pick(["b", "f", "c", "a", "s", "l", "x", "u", "e", "", "t ", "\r", "totals"])]
-        words += [dice.pick(["0", "9", "2004", "1F", "16", "22", "-", "?", "\xff", "", "00"])
+        words = [dice.pick(["b", "f", "c", "a", "s", "l", "x", "u", "e", "", "t ", "\r", "totals", "count"])]
+        words += [dice.pick(["0", "9", "2004", "1F", "16", "22", "25", "4294967295", "-", "?", "\xff", "", "00"])
                   for _ in range(dice.below(4))]
         line = " ".join(words).encode("latin-1")
         assert len(replay.answer(line)) == (1 if line else 0), line
@@ -899,7 +1084,8 @@ def any_line():
 
 CHECKS = [block_check, examples, decided_points, other_ensemble, reading_over_bits, counted_places, made_places,
           reports, random_reports, plain_reader, air_read_back, sheets_back, sheets_accepted, rules_kept, refusals,
-          bounds, every_small_set, totals_by_hand, totals_kept, totals_of_recordings, wrong_figures, better_and_worse,
+          bounds, every_small_set, totals_by_hand, totals_kept, totals_of_recordings, wrong_figures, numbers_by_hand,
+          showings_by_hand, numbers_kept, numbers_of_recordings, wrong_numbers, numbers_not_shown, better_and_worse,
           where_it_fails, spoilings, any_stored_form, any_line]
 
 

@@ -68,7 +68,7 @@ class Counting:
     def counted(self, words, answers):
         if self.now:
             self.now = int(words[0]), self.now[1]
-            return ["count makes %s table" % ("a good" if self.are_good() else "a bad")]
+            return ["count gives %s table" % ("a good" if self.are_good() else "a bad")]
 
     def spoiled(self, words, answers):
         if answers == ["x"]:

@@ -15,12 +15,13 @@ from itertools import product
 sys.dont_write_bytecode = True
 
 import cases
+import confirmed
 import other
 import places
 import scenes
 import totals
 from folder import write_files
-from making import Dice, block, block_of, damaged, linking_fig, long, more, start, whole_list, with_check
+from making import Dice, block, block_of, damaged, linking_fig, long, more, start, state, whole_list, with_check
 from material import (DAB, DRM, FLAGS, RDS, faulty_block, largest_sheet, long_sheet, most_pieces, random_figs,
                       random_keys, random_pairs, sheet_bytes)
 from scenes import EXAMPLE
@@ -28,7 +29,7 @@ from script import LETTERS, Script
 from second.check import report_text
 from second.columns import OF_A_RECORDING, csv_text, table_text
 from second.figs import figs_text
-from second.listing import listing, table_of
+from second.listing import listing_text, table_of
 from second.totals import totals_text
 
 HERE = os.path.dirname(os.path.abspath(__file__))
@@ -49,10 +50,19 @@ OTHER_REACH = (READ_REACH + ["b 9", "c 9", "a 0", "a 8", "a 9", "s 0", "s 8", "l
                + ["x %d done" % way for way in range(1, 17)])
 # Every way in which a block can change the figures; what leaves them.
 STAYS = ["b 1", "b 2", "b 3", "b 4", "b 5", "b 6", "f 7", "c 0", "c 7", "c 8", "c 11", "a 0", "a 8", "s 0", "s 8", "t"]
-TOTALS_REACH = (ALL_REACH[:ALL_REACH.index("?") + 1] + ["totals", "totals 9"] + ["x %d done" % way for way in totals.WAYS]
+TOTALS_REACH = (ALL_REACH[:ALL_REACH.index("?") + 1] + ["totals", "totals 9"]
+                + ["x %d done" % way for way in totals.WAYS]
                 + ["b 0 makes %s %s %s" % signs for signs in product("+=", "+=-", "+=-")]
                 + ["f 0 makes - - -", "f 0 makes - = -", "f 0 makes = = =", "l 0 makes + + +", "l 0 makes - - -",
                    "l 10 makes - - -", "e makes - - -"] + [what + " makes = = =" for what in STAYS])
+# Which blocks are counted, and up to where; showings; every way of spoiling, and where the two of numbers find nothing.
+CONFIRMED_REACH = (ALL_REACH[:ALL_REACH.index("?") + 1] + ["totals 9", "count"]
+                   + ["x %d done" % way for way in confirmed.WAYS] + ["x 25 ?", "x 26 ?"]
+                   + ["b %d is counted" % outcome for outcome in (0, 2, 3, 4, 5, 6)]
+                   + ["b %d at the stop" % outcome for outcome in (0, 2, 3, 4, 5, 6)]
+                   + ["b %d is not counted" % outcome for outcome in (1, 9)]
+                   + ["shown", "shown again", "shown twice in a block", "shown at the stop"]
+                   + ["count gives a good table", "count gives a bad table"])
 # A shown set that begins with each kind: with OE 1 any, of 16 and 24 bits.
 FIRST_SHOWN = ["[%s]... (on|off) #[0-9]+ shown %s D" % where for where in (("0-3", "."), ("4-7", "0"), ("C-F", "0"))]
 FIRST_SHOWN += ["[%s]... (on|off) #[0-9]+ shown . %s" % (key, letter) for key in ("8A", "9B") for letter in "DRM"]
@@ -319,6 +329,38 @@ def totals_script():
     return script
 
 
+# confirmed.in
+
+
+def confirmed_script():
+    """Document 02, R-9: the count of blocks, and at which of them each set was last shown."""
+    script = Script((*LETTERS, "totals", "count"))
+    confirmed.by_hand(script)
+    confirmed.each_outcome(script)
+    confirmed.start_and_showing(script)
+    confirmed.again(script)
+    confirmed.in_one_block(script)
+    confirmed.between(script)
+    confirmed.leaving(script)
+    confirmed.places(script)
+    confirmed.forgotten(script)
+    confirmed.full_table(script)
+    confirmed.loads(script)
+    confirmed.written(script)
+    confirmed.counts(script)
+    confirmed.counts_spoiled(script)
+    confirmed.stops(script)
+    confirmed.receptions(script)
+    confirmed.each_number(script)
+    confirmed.where_spoiled(script)
+    confirmed.needed(script)
+    confirmed.each_way(script)
+    confirmed.spoiled_twice(script)
+    confirmed.grammar(script)
+    confirmed.random_scenes(script, Dice(20240407), 480)
+    return script
+
+
 # large.in
 
 
@@ -427,6 +469,30 @@ def every_refusal():
     return b"".join([damaged(EXAMPLE)] + once + sent + [without_room, damaged(sent[8])]) + EXAMPLE[:5]
 
 
+def last_shown():
+    """Sets that are last shown at different blocks, refused ones among them; a rest of seven bytes.
+
+    One is shown once and turned off later, one after a refused block alone,
+    one twice in a block, one again with the same identifiers; one was open
+    when a block was refused, and is not shown.
+    """
+    data, twice, dead = start(0x4004, 1, DAB, [5, 6]), long(0x8003, 1, RDS, [5, 6]), start(0x2006, 1, RDS, [7])
+    common, late = start(0x3002, 1, DAB, [5]), start(0x2005, 1, DAB, [5])
+    return b"".join([start(0x2001, 1, DAB, [1, 2])] * 2 + [common, damaged(common), common, common]
+                    + [state(0x2001, 0), block(linking_fig(0, 1, 0, twice, twice, twice)), block_of("00"), data, late]
+                    + [data, data, cases.A25, late, block_of("")] + [dead] * 2) + EXAMPLE[:7]
+
+
+LAST_SHOWN = """sets 5 blocks 18
+2001 off #2 ids 2 D0001 D0002
+2006 on #18 ids 1 D0007 R-
+3002 on #6 ids 1 D000005
+4004 on #13 ids 2 D00000005 D00000006
+8003 on #8 ids 2 R0005 R0006
+tail 7
+"""
+
+
 def random_recording(dice, count):
     """Blocks of forty keys, one in twenty refused."""
     keys = random_keys(dice, 40)
@@ -457,6 +523,7 @@ def recordings():
         "oe": twice(other_ensembles),
         "oe-first": twice(first_of_another()),
         "other-ensemble": (cases.TUNED + cases.OTHER) * 2,
+        "confirmed": last_shown(),
         "full": full_recording(dice),
         "random": b"".join(random_recording(dice, 1000)),
     }
@@ -494,7 +561,8 @@ def figures_stay(name, script):
 def all_files():
     """Path under the folder and bytes of every vector file, and what each script met."""
     scripts = {"examples": examples(), "annex": annex(), "read": read_only(), "random": random_script(),
-               "places": places_script(), "other": other_script(), "totals": totals_script(), "large": large()}
+               "places": places_script(), "other": other_script(), "totals": totals_script(),
+               "confirmed": confirmed_script(), "large": large()}
     reached("read", scripts["read"], READ_REACH)
     reached("random", scripts["random"], ALL_REACH)
     reached("places", scripts["places"], PLACE_REACH)
@@ -502,6 +570,9 @@ def all_files():
     reached("totals", scripts["totals"], TOTALS_REACH)
     answered("totals", scripts["totals"], ["totals 9$", "totals 0 0 0$", "totals 32 32 4096$"])
     figures_stay("totals", scripts["totals"])
+    reached("confirmed", scripts["confirmed"], CONFIRMED_REACH)
+    answered("confirmed", scripts["confirmed"], ["t 0 #0$", "t 32 #4294967295$", "2004 on #4294967295 shown",
+                                                 "c 0 2004 on 1 #7 D44B1", "c 0 2004 (on|off) . #4294967295 "])
     for name in ("read", "random", "other"):
         answered(name, scripts[name], FIRST_SHOWN)
     assert scripts["read"].seen["commands"] >= 1500 and scripts["random"].seen["commands"] >= 3000
@@ -513,13 +584,14 @@ def all_files():
     files["random.in"] = files["random.in"][:-1]        # a last line without its LF
     for name, recording in recordings().items():
         files["listing/" + name + ".fib"] = recording
-        files["listing/" + name + ".txt"] = "".join(line + "\n" for line in listing(recording)).encode("ascii")
-        files["listing/" + name + ".confirmed"] = "".join(line + "\n" for line in listing(recording, True)).encode("ascii")
+        files["listing/" + name + ".txt"] = listing_text(recording).encode("ascii")
+        files["listing/" + name + ".confirmed"] = listing_text(recording, True).encode("ascii")
         files["listing/" + name + ".table"] = table_text(table_of(recording), OF_A_RECORDING).encode("ascii")
         files["listing/" + name + ".figs"] = figs_text(recording).encode("ascii")
         files["listing/" + name + ".check"] = report_text(recording).encode("ascii")
         files["listing/" + name + ".totals"] = totals_text(recording).encode("ascii")
         files["listing/" + name + ".csv"] = csv_text(table_of(recording), OF_A_RECORDING).encode("ascii")
+    assert files["listing/confirmed.confirmed"].decode() == LAST_SHOWN
     return files, {name: script.seen for name, script in scripts.items()}
 
 

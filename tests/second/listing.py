@@ -71,9 +71,13 @@ def listing(recording, confirmed=False):
     return lines + ["tail %d" % rest] if rest else lines
 
 
+def listing_text(recording, confirmed=False):
+    return "".join(line + "\n" for line in listing(recording, confirmed))
+
+
 def main():
-    lines = listing(sys.stdin.buffer.read(), sys.argv[1:] == ["--confirmed"])
-    sys.stdout.buffer.write("".join(line + "\n" for line in lines).encode("ascii"))
+    text = listing_text(sys.stdin.buffer.read(), sys.argv[1:] == ["--confirmed"])
+    sys.stdout.buffer.write(text.encode("ascii"))
 
 
 if __name__ == "__main__":

@@ -55,6 +55,12 @@ pub(crate) fn put_number(out: &mut [u8], at: usize, number: usize) -> usize {
     put_decimal(out, p, number)
 }
 
+// The number of a block.
+pub(crate) fn put_block(out: &mut [u8], at: usize, number: u32) -> usize {
+    let p = put_bytes(out, at, b" #");
+    put_decimal(out, p, number as usize)
+}
+
 // The place, after an outcome that is not 0.
 pub(crate) fn put_place(out: &mut [u8], at: usize, outcome: Outcome, place: usize) -> usize {
     if outcome_number(outcome) == 0 {
@@ -109,14 +115,23 @@ fn put_list(out: &mut [u8], at: usize, key: u32, list: IdList) -> usize {
 }
 
 // The line of a held key.
-fn put_entry(out: &mut [u8], at: usize, key: u32, on: bool, shown: IdList, draft: IdList) -> usize {
+fn put_entry(
+    out: &mut [u8],
+    at: usize,
+    key: u32,
+    on: bool,
+    confirmed: u32,
+    shown: IdList,
+    draft: IdList,
+) -> usize {
     let p = put_key(out, at, key);
     let q = text::put_state(out, p, on);
-    let r = put_bytes(out, q, b" shown");
-    let s = put_list(out, r, key, shown);
-    let t = put_bytes(out, s, b" open");
-    let u = put_list(out, t, key, draft);
-    put(out, u, 10)
+    let r = put_block(out, q, confirmed);
+    let s = put_bytes(out, r, b" shown");
+    let t = put_list(out, s, key, shown);
+    let u = put_bytes(out, t, b" open");
+    let v = put_list(out, u, key, draft);
+    put(out, v, 10)
 }
 
 // The lines of the held keys, after the table's first line.
@@ -127,7 +142,15 @@ fn put_entries(out: &mut [u8], at: usize, sets: Sets) -> usize {
     while i < end {
         let shown = sets.shown[i];
         let draft = sets.draft[i];
-        p = put_entry(out, p, sets.keys[i], sets.on[i], shown, draft);
+        p = put_entry(
+            out,
+            p,
+            sets.keys[i],
+            sets.on[i],
+            sets.confirmed[i],
+            shown,
+            draft,
+        );
         i += 1;
     }
     p
@@ -140,8 +163,9 @@ pub(crate) fn put_table(out: &mut [u8], table: Table) -> usize {
     }
     let sets = table.sets;
     let p = put_head(out, b't', sets.count);
-    let q = put(out, p, 10);
-    put_entries(out, q, sets)
+    let q = put_block(out, p, table.blocks);
+    let r = put(out, q, 10);
+    put_entries(out, r, sets)
 }
 
 // The three totals, or the table's outcome 9.

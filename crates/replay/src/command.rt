@@ -98,7 +98,8 @@ fn put_set<'a>(
     let q = answer::put_key(out, p, copied.key);
     let r = text::put_state(out, q, copied.on);
     let s = answer::put_number(out, r, copied.named as usize);
-    text::put_pairs(out, s, copied.key, numbers, kinds, copied.count)
+    let t = answer::put_block(out, s, copied.confirmed);
+    text::put_pairs(out, t, copied.key, numbers, kinds, copied.count)
 }
 
 // Copies a set out into the first `n` and `m` places of these buffers, and answers it.
@@ -213,7 +214,7 @@ fn answer_load(table: Table, line: &[u8], len: usize, out: &mut [u8]) -> Step {
 
 // `x N` spoils the table.
 fn answer_spoil(table: Table, line: &[u8], len: usize, out: &mut [u8]) -> Step {
-    let way = count_at(line, 2, len, 24);
+    let way = count_at(line, 2, len, 26);
     if !way.good || !spoil::is_way(way.value) {
         return unknown(table, out);
     }
@@ -270,6 +271,21 @@ fn answer_letter(table: Table, letter: u8, line: &[u8], out: &mut [u8]) -> Step 
     }
 }
 
+// `count N` sets the table's own count, whatever the table is.
+fn answer_count(table: Table, line: &[u8], len: usize, out: &mut [u8]) -> Step {
+    let number = count_at(line, 6, len, 4294967295);
+    if !number.good {
+        return unknown(table, out);
+    }
+    let mut left = table;
+    left.blocks = number.value as u32;
+    Step {
+        table: left,
+        next: Next::Go,
+        size: put_bytes(out, 0, b"count\n"),
+    }
+}
+
 // The commands that are a word of more than a letter.
 fn answer_word(table: Table, line: &[u8], len: usize, out: &mut [u8]) -> Step {
     if is_word(line, len, b"totals") {
@@ -278,6 +294,9 @@ fn answer_word(table: Table, line: &[u8], len: usize, out: &mut [u8]) -> Step {
             next: Next::Go,
             size: answer::put_totals(out, table),
         };
+    }
+    if is_word(line, 6, b"count ") {
+        return answer_count(table, line, len, out);
     }
     unknown(table, out)
 }

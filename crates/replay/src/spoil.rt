@@ -1,5 +1,6 @@
 // The ways to spoil a table, for testing outcome 9. Each is an assignment on the stored form, on the
-// first place that has what the way needs: 1 to 16 on the sets, 22 to 24 on the totals.
+// first place that has what the way needs: 1 to 16 on the sets, 22 to 24 on the totals, 25 and 26 on the
+// sets' numbers.
 use lists::IdList;
 use sets::Sets;
 use table::Table;
@@ -23,7 +24,7 @@ pub(crate) fn is_way(number: usize) -> bool {
     if number < 17 {
         return number != 0;
     }
-    22 <= number && number <= 24
+    22 <= number && number <= 26
 }
 
 // Ways 1 to 6 need only enough entries.
@@ -64,6 +65,8 @@ fn swapped(sets: Sets) -> Sets {
     t.keys[1] = sets.keys[0];
     t.on[0] = sets.on[1];
     t.on[1] = sets.on[0];
+    t.confirmed[0] = sets.confirmed[1];
+    t.confirmed[1] = sets.confirmed[0];
     let shown0 = sets.shown[0];
     let shown1 = sets.shown[1];
     t.shown[0] = shown1;
@@ -107,11 +110,12 @@ fn has_other(list: IdList) -> bool {
     lists::has_kind(rules::DRM, &list.numbers, &list.kinds, len)
 }
 
-// Whether a key's set, or open list in way 16, has what one of the ways 7 to 16 needs.
+// Whether a key's set, or open list in way 16, has what one of the ways 7 to 16 or 25 needs; in way 26
+// whether there is no set.
 fn is_needed(way: usize, key: u32, list: IdList) -> bool {
     let len = list.len;
     if len == 0 || 128 < len {
-        return false;
+        return way == 26;
     }
     if way == 8 {
         len < 128
@@ -126,7 +130,7 @@ fn is_needed(way: usize, key: u32, list: IdList) -> bool {
     } else if way == 15 {
         key / 16384 % 2 == 1
     } else {
-        true
+        way != 26
     }
 }
 
@@ -268,8 +272,46 @@ fn spoil_totals(totals: Totals, way: usize) -> Totals {
     }
 }
 
+// A table with another number of the set at a place.
+fn numbered(table: Table, at: usize, number: u32) -> Spoilt
+    requires { ⌜ at < 32 ⌝ }
+{
+    let sets = table.sets;
+    let mut s = sets;
+    s.confirmed[at] = number;
+    let mut next = table;
+    next.sets = s;
+    Spoilt {
+        done: true,
+        table: next,
+    }
+}
+
+// A table spoiled in way 25 or 26: the number of a shown set is above the table's own count, which has to
+// leave room for that; or there is one without a shown set.
+fn spoil_number(table: Table, way: usize) -> Spoilt {
+    let sets = table.sets;
+    let keys = sets.keys;
+    let shown = sets.shown;
+    let at = first_place(keys, shown, way);
+    if 32 <= at {
+        return Spoilt { done: false, table };
+    }
+    if way == 26 {
+        if at < sets.count {
+            return numbered(table, at, 1);
+        }
+    } else if table.blocks < Table::BLOCKS {
+        return numbered(table, at, table.blocks + 1);
+    }
+    Spoilt { done: false, table }
+}
+
 // A table spoiled in one of the ways.
 pub(crate) fn spoil(table: Table, way: usize) -> Spoilt {
+    if 25 <= way {
+        return spoil_number(table, way);
+    }
     if 22 <= way {
         let totals = table.totals;
         let wrong = spoil_totals(totals, way);

@@ -39,6 +39,12 @@ element-copy-out-put-entry c = search needs
 element-copy-out-put-entry-2 : tie.Need-element-copy-out-put-entry-2 Inv-loop μ-loop
 element-copy-out-put-entry-2 c = search needs
 
+mul-put-entry-2 : tie.Need-mul-put-entry-2 Inv-loop μ-loop
+mul-put-entry-2 c = search needs
+
+element-copy-out-put-entry-3 : tie.Need-element-copy-out-put-entry-3 Inv-loop μ-loop
+element-copy-out-put-entry-3 c = search needs
+
 put-entry-requires : tie.Need-put-entry-requires Inv-loop μ-loop
 put-entry-requires c κs = search needs
 
@@ -72,6 +78,8 @@ put-entries-spec =
     mul-put-entry
     element-copy-out-put-entry
     element-copy-out-put-entry-2
+    mul-put-entry-2
+    element-copy-out-put-entry-3
     put-entry-requires
     add-i
     loop-less
