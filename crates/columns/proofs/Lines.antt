@@ -10,7 +10,7 @@ use mathlib.Core.List.{List, [], _∷_, _++_, append-nil, append-assoc}
 use mathlib.Core.Option.{Option, none, some}
 use lib.ListN.{length, replicate, length-append, length-replicate}
 use lib.Dec.{ltb, eqb}
-use borrow.Author.Tests.{eqb-true, eqb-false, ne-eqb, lt-ltb, le-ltb, ltb-false}
+use borrow.Author.Tests.{eqb-true, eqb-false, ne-eqb, lt-ltb, le-ltb}
 use Rattle.rules.specs.Field.{Pair, dab, rds, drm}
 use Rattle.rules.specs.Collecting.{Shown, keyWidth}
 use Rattle.lists.specs.Kinds.{hasKind}

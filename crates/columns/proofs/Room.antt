@@ -9,10 +9,8 @@ use mathlib.Core.Option.{Option, none, some}
 use lib.ListN.{length, length-append}
 use lib.Dec.{eqb}
 use Rattle.rules.specs.Field.{rds, drm}
-use Rattle.rules.specs.Collecting.{IdSet, Held, Entries, Content, Shown, Confirmed, confirming, confirmedSets, keyWidth, ifThere, entryMeets, entriesMeet, meets, mostKeys, mostIds, mostBlocks}
+use Rattle.rules.specs.Collecting.{IdSet, Held, Entries, Content, Confirmed, confirming, confirmedSets, keyWidth, ifThere, entryMeets, entriesMeet, meets, mostKeys, mostIds, mostBlocks}
 use Rattle.lists.specs.Kinds.{hasKind}
-use Rattle.out.specs.Text.{decimal}
-use Rattle.text.specs.Listing.{stateText}
 use Rattle.rules.proofs.Basics.{and-left, and-right}
 use Rattle.rules.proofs.TableRules.{set-rules, entry-rules, table-rules, NumbersWithin, content-meets, width-most}
 use Rattle.columns.specs.Columns.{numberIf, rowsOf, filled, gap, cellsText, endText, numberText, rowsText, lineWidth, ruleText, namesText, lastName, headingText, setsText, columns}

@@ -2,7 +2,7 @@
 -- side by side in a row cannot be taken for a pair of codes that belong together. Where rows are numbered, the last column has the
 -- number of the block at which the set was last shown (document 02, R-9).
 use Prim.Native.Nat.{ℕ, _+_, _-_, _*_, _/_, _%_}
-use mathlib.Core.Bool.{Bool, not, cond, _&&_, _||_}
+use mathlib.Core.Bool.{Bool, cond, _||_}
 use mathlib.Core.List.{List, [], _∷_, _++_}
 use mathlib.Core.Option.{Option, none, some}
 use lib.ListN.{length, replicate}

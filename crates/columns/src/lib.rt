@@ -305,11 +305,7 @@ fn put_names(out: &mut [u8], at: usize, csv: bool) -> usize
     if csv {
         put_bytes(out, at, b"set,state,DAB,FM (RDS),DRM/AMSS")
     } else {
-        put_bytes(
-            out,
-            at,
-            b"set  | state | DAB       | FM (RDS)  | DRM/AMSS ",
-        )
+        put_bytes(out, at, b"set  | state | DAB       | FM (RDS)  | DRM/AMSS ")
     }
 }
 

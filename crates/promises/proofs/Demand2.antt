@@ -27,7 +27,6 @@ pub use Rattle.promises.proofs.AirWritten.{write-air-shows, write-air-s
 pub use Rattle.promises.proofs.SheetWritten.{write-sheet-loads, load-sheet-writes}
 -- the totals of what is handed back are the sums over its sets; a wrong figure is 9 (document 02, R-7)
 pub use Rattle.promises.proofs.Totals.{RightTotals, stored-totals, read-block-totals, read-recording-totals, forget-key-totals, load-sheet-totals, wrong-totals}
-
 -- the numbers of blocks: none above a table's own count, none without a set, either is 9; a loaded table has none (document 02, R-9)
 pub use Rattle.promises.proofs.Numbers.{last-confirmed, from-empty, stored-within, stored-unshown, number-above, number-alone, load-sheet-unnumbered}
 -- and apart from them a recording leaves what it left before there were any

@@ -251,8 +251,7 @@ module _ (t : Sets) (f : SetsFacts t)
         short = subst (λ (k : ℕ). k ≤ mostKeys) (sym length-content) (f .short);
         ascend = ascends-by 0 contentOf keys-ok;
         entries = entries-by 0 contentOf keys-ok
-            (lists-by (t .count) entryAt (λ k h.
-            (
+            (lists-by (t .count) entryAt (λ k h. (
               list-of-holds _ _ (f .shown-hold k (omega (arith, f .short))) .0,
               list-of-holds _ _ (f .draft-hold k (omega (arith, f .short))) .0,
               number-by (getD (t .shown) k past) _ (unfold NumbersHold in f .numbers-hold k (omega (arith, f .short))),

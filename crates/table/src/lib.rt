@@ -246,12 +246,5 @@ pub fn copy_out(table: Table, key: u32, numbers: &mut [u32], kinds: &mut [u8]) -
         return not_copied(Outcome::NotHeld);
     }
     let set = sets.shown[at];
-    copy_set(
-        set,
-        key,
-        sets.on[at],
-        sets.confirmed[at],
-        numbers,
-        kinds,
-    )
+    copy_set(set, key, sets.on[at], sets.confirmed[at], numbers, kinds)
 }

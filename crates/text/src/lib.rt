@@ -171,7 +171,15 @@ fn numbered_size(numbered: bool, word: usize, n: u32) -> usize
 // ---- the line of a set
 
 // The line up to the identifiers, of which there are n, at a place.
-fn put_head(out: &mut [u8], at: usize, numbered: bool, key: u32, on: bool, block: u32, n: usize) -> usize
+fn put_head(
+    out: &mut [u8],
+    at: usize,
+    numbered: bool,
+    key: u32,
+    on: bool,
+    block: u32,
+    n: usize,
+) -> usize
     ensures { λ r. ⌜ Puts (now (out .entry)) at (hexText 4 key ++ 32 ∷ stateText on ++ (numberText numbered block ++ idsText n)) (now (out .exit)) r ⌝ }
 {
     let p = put_hex(out, at, 4, key);
@@ -195,7 +203,15 @@ fn line_size(numbered: bool, key: u32, on: bool, block: u32, list: IdList) -> us
 }
 
 // The line of a set at a place.
-fn put_line(out: &mut [u8], at: usize, numbered: bool, key: u32, on: bool, block: u32, list: IdList) -> usize
+fn put_line(
+    out: &mut [u8],
+    at: usize,
+    numbered: bool,
+    key: u32,
+    on: bool,
+    block: u32,
+    list: IdList,
+) -> usize
     ensures { λ r. ⌜ Puts (now (out .entry)) at (lineWith (numberText numbered block) (shownAs key on list)) (now (out .exit)) r ⌝ }
 {
     let len = list.len;
@@ -247,7 +263,7 @@ fn put_tail(out: &mut [u8], at: usize, over: usize) -> usize
 
 // ---- the whole listing
 
-// The size of the lines of the sets of a sets.
+// The size of the lines of the sets.
 fn lines_size(numbered: bool, sets: Sets) -> usize
     requires { ⌜ sets .count ≤ mostKeys ⌝ }
     ensures { λ r. ⌜ (r ≡ length (linesIn numbered (confirmedSetsIn sets))) × (r ≤ 42944) ⌝ }
@@ -274,7 +290,15 @@ fn put_lines(out: &mut [u8], at: usize, numbered: bool, sets: Sets) -> usize
     while k < sets.count {
         let set = sets.shown[k];
         if set.len != 0 {
-            p = put_line(out, p, numbered, sets.keys[k], sets.on[k], sets.confirmed[k], set);
+            p = put_line(
+                out,
+                p,
+                numbered,
+                sets.keys[k],
+                sets.on[k],
+                sets.confirmed[k],
+                set,
+            );
         }
         k += 1;
     }

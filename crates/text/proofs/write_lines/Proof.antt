@@ -3,12 +3,14 @@
 use Prim.Native.Nat.{_+_}
 use native.Mathlib.Omega.{arith}
 use mathlib.Core.Path.{_≡_, refl}
-use mathlib.Core.Bool.{true}
+use mathlib.Core.List.{_++_}
 use lib.ListN.{length}
 use borrow.Author.Tests.{not-true, not-false}
-use Rattle.rules.specs.Collecting.{Content, meets}
-use Rattle.text.specs.Lines.{listed}
-use Rattle.table.specs.Stored.{storeTable}
+use Rattle.rules.specs.Collecting.{Content}
+use Rattle.sets.specs.Shown.{confirmedSetsIn}
+use Rattle.text.specs.Listing.{tailText}
+use Rattle.text.specs.Lines.{linesIn, firstText, listed}
+use Rattle.table.specs.Stored.{Given}
 use Rattle.table.proofs.GivenLaws.{given-wrong, given-right, tested-short}
 use Rattle.out.specs.Answer.{writtenAs}
 use Rattle.out.proofs.Runs.{puts-as, puts-then}
@@ -43,15 +45,23 @@ tail-size-requires c κs = search needs
 add-size-2 : tie.Need-add-size-2
 add-size-2 c = search needs
 
--- the sizes that are added up make that of the listing
-sized : (c : tie.After-tail-size) (d : Content) → meets d ≡ true → c .before .before .before .before .before .before .before .before .args .table ≡ storeTable d
+-- of a stored table the parts make the listing, and the sizes that are added up its size
+of-stored : (c : tie.After-tail-size) {right : Content → Type 0} {otherwise : Type 0}
+    → ((d : Content)
+    → firstText (c .before .before .before .before .before .before .before .before .args .numbered) (c .before .before .before .shown-count .result) (c .before .before .before .before .before .before .before .before .args .table .blocks) ++ linesIn (c .before .before .before .before .before .before .before .before .args .numbered) (confirmedSetsIn (c .before .before .before .before .before .before .before .before .args .table .sets)) ++ tailText (c .before .before .before .before .before .before .before .before .args .over)
+    ≡ listed (c .before .before .before .before .before .before .before .before .args .numbered) d (c .before .before .before .before .before .before .before .before .args .over)
     → c .before .before .first-size .result + c .before .lines-size .result + c .tail-size .result ≡ length (listed (c .before .before .before .before .before .before .before .before .args .numbered) d (c .before .before .before .before .before .before .before .before .args .over))
-sized c d m e =
-    listed-size (c .before .before .before .before .before .before .before .before .args .numbered) (c .before .before .before .before .before .before .before .before .args .table) d m e _ _ (c .before .before .before .shown-count .ensures) (c .before .before .first-size .ensures .0) (c .before .lines-size .ensures .0) (c .tail-size .ensures .0)
+    → right d)
+    → Given (c .before .before .before .before .before .before .before .before .args .table) right otherwise
+of-stored c h =
+    let a = c .before .before .before .before .before .before .before .before .args in
+    given-right (c .before .before .before .before .before .before .meets .ensures) (not-false _ (c .before .before .before .before .before .if1 .left)) (λ d m e.
+    h d
+    (listed-of (a .numbered) (a .table) d m e _ _ (c .before .before .before .shown-count .ensures))
+    (listed-size (a .numbered) (a .table) d m e _ _ (c .before .before .before .shown-count .ensures) (c .before .before .first-size .ensures .0) (c .before .lines-size .ensures .0) (c .tail-size .ensures .0)))
 
 returns-2 : tie.Need-returns-2
-returns-2 c =
-    given-right (c .before .before .before .before .before .before .before .meets .ensures) (not-false _ (c .before .before .before .before .before .before .if1 .left)) (λ d m e. written-short _ _ (omega (arith, c .if2 .taken, sized (c .before) d m e)))
+returns-2 c = of-stored (c .before) (λ d text size. written-short _ _ (omega (arith, c .if2 .taken, size)))
 
 put-first-requires : tie.Need-put-first-requires
 put-first-requires c κs = search needs
@@ -67,10 +77,8 @@ same-length c = search needs
 
 returns-3 : tie.Need-returns-3
 returns-3 c =
-    given-right (c .before .before .before .before .before .before .before .before .before .before .before .before .before .before .before .before .before .before .before .meets .ensures) (not-false _ (c .before .before .before .before .before .before .before .before .before .before .before .before .before .before .before .before .before .before .if1 .left)) (λ d m e.
-    written-done (omega (arith, c .before .before .before .before .before .before .before .before .before .before .before .before .if2 .left, sized (c .before .before .before .before .before .before .before .before .before .before .before .before .before) d m e))
-    (puts-as (listed-of (c .before .before .before .before .before .before .before .before .before .before .before .before .before .before .before .before .before .before .before .before .before .args .numbered) (c .before .before .before .before .before .before .before .before .before .before .before .before .before .before .before .before .before .before .before .before .before .args .table) d m e _ _ (c .before .before .before .before .before .before .before .before .before .before .before .before .before .before .before .before .shown-count .ensures))
-    (puts-then (puts-then (c .before .before .before .before .before .before .before .before .before .before .put-first .ensures) (c .before .before .before .before .before .before .put-lines .ensures)) (c .before .before .put-tail .ensures))))
+    of-stored (c .before .before .before .before .before .before .before .before .before .before .before .before .before) (λ d text size.
+    written-done (omega (arith, c .before .before .before .before .before .before .before .before .before .before .before .before .if2 .left, size)) (puts-as text (puts-then (puts-then (c .before .before .before .before .before .before .before .before .before .before .put-first .ensures) (c .before .before .before .before .before .before .put-lines .ensures)) (c .before .before .put-tail .ensures))))
 
 pub write-lines-spec : {M : Type 1} → statement M
 write-lines-spec =
