@@ -4,7 +4,7 @@
 -- sheet-most, load-single, load-meets, load-written, load-again.
 use Prim.Native.Nat.{ℕ, zero, suc, _+_, _*_, _/_, _%_, _^_, _≤_, _<_}
 use mathlib.Core.Path.{_≡_, refl, sym, _∙_, ap, ap₂}
-use mathlib.Core.Bool.{Bool, true, false, _&&_}
+use mathlib.Core.Bool.{Bool, true, false}
 use mathlib.Core.List.{List, [], _∷_, _++_, map, append-assoc}
 use mathlib.Core.Logic.{_↔_}
 use mathlib.Core.Option.{Option, none, some}
@@ -17,7 +17,6 @@ use Rattle.rules.specs.declared.Outcome.{Outcome}
 use Rattle.rules.specs.declared.Outcome.the-variants.{Done}
 use Rattle.rules.specs.Block.{bit}
 use Rattle.rules.specs.Field.{Pair}
-use Rattle.rules.specs.Family.{heldMeets}
 use Rattle.rules.specs.Collecting.{IdSet, Entries, Content, justSets, Shown, isKey, keyWidth, pairsMeet, ifThere, numberMeets, entryMeets, ascends, entriesMeet, setsMeet, meets, showing, shownSets}
 use Rattle.layout.specs.Sheet.{groups, sheetNumber, sheetPairs, sheetSet, sheetSets, sheet, alone, justShown, Load, accepted, notASheet}
 use Rattle.rules.proofs.Basics.{same-head, same-tail, cases-bool, and-left, and-right, and-both, bit-small}

@@ -9,7 +9,7 @@ use lib.ListN.{length, take}
 use lib.Dec.{eqb}
 use Rattle.rules.specs.Block.{bit}
 use Rattle.rules.specs.Family.{find}
-use Rattle.rules.specs.Collecting.{linkage, IdSet, Held, Content, Shown, mostBlocks}
+use Rattle.rules.specs.Collecting.{linkage, IdSet, Held, Content, mostBlocks}
 use Rattle.rules.specs.Numbers.{Later}
 use Rattle.promises.specs.Demand3.{Operation, block, forgetting, ShowsAt}
 

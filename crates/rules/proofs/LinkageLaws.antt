@@ -20,7 +20,7 @@ use Rattle.rules.specs.Outcomes.{numberOf, Verdict, taken, refused, noBl
 use Rattle.rules.proofs.Basics.{cases-bool, true-false, cond-cases, cond-both, Every, every-imp, every-map, every-from, every-take, every-drop}
 use Rattle.rules.proofs.FamilyLaws.{Brings, Keeps, different-addedAll, addedAll-first, opening-first, length-addedAll, every-addedAll, every-steps, every-drop-open, every-forget, steps-notes}
 use Rattle.rules.proofs.FamilyRules.{FieldMeets, stamp-keeps, table-steps, table-drop-open, table-forget}
-use Rattle.rules.proofs.TableRules.{lawful, dab-named, names-small, first-again, PairMeets, SetMeets, KeyMeets, meaning, Meets, table-meets, NumbersWithin, ContentMeets, content-meets, join-mod, join-div, join-zero, kind-cases}
+use Rattle.rules.proofs.TableRules.{lawful, dab-named, names-small, first-again, PairMeets, SetMeets, KeyMeets, meaning, Meets, table-meets, NumbersWithin, content-meets, join-mod, join-div, join-zero, kind-cases}
 use Rattle.rules.proofs.Taken.{Bytes, FieldBits, GoodField, taken-good, taken-few}
 
 -- ---- names of two lists together

@@ -8,7 +8,7 @@ use mathlib.Core.List.{List, [], _∷_, map}
 use mathlib.Core.Option.{Option, none, some}
 use lib.ListN.{length, take, drop, getElem?}
 use Rattle.rules.specs.Family.{Family, Listed, Said, Entry, find, steps, dropOpen}
-use Rattle.rules.specs.Receptions.{Op, saidIn, ShowsIn, ShowsRun}
+use Rattle.rules.specs.Receptions.{Op, saidIn, ShowsRun}
 use Rattle.rules.specs.Collecting.{linkage, Entries, said}
 use Rattle.rules.specs.Outcomes.{Verdict, taken, refused, noBlock, verdict}
 
