@@ -79,8 +79,8 @@ pub fn some_holds(bytes: &[u8]) -> bool
 }
 
 // What a recording left: the table, which meets the rules, the bytes after its last whole block, how many of its starts found no
-// room, how many of its blocks were refused, how many bytes there were, whether the check of some block held, and whether a read failed: then this is of a part of the
-// recording only.
+// room, how many of its blocks were refused, how many bytes there were, whether the check of some block held, and whether a read
+// failed: then this is of a part of the recording only.
 pub struct Received {
     pub table: Table,
     pub rest: usize,
