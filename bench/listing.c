@@ -1,11 +1,9 @@
 /* The work of the listing program in plain C, for bench/run: the same answers on the same recordings, with the same kind of
-   block check (by half bytes; with BIT_BY_BIT as both had it once). Written for speed and plainness, proved by nothing.
-   Services are read as they are there; they are printed, in the place of the sets, with SERVICES. */
+   block check (by half bytes; with BIT_BY_BIT as both had it once). Written for speed and plainness, proved by nothing. */
 typedef unsigned char u8;
 typedef unsigned short u16;
 typedef unsigned int u32;
 typedef unsigned long usize;
-typedef unsigned long long u64;
 
 extern long read(int, void *, usize);
 extern long write(int, const void *, usize);
@@ -13,20 +11,14 @@ extern void *memcpy(void *, const void *, usize);
 extern void *memmove(void *, const void *, usize);
 extern void *memset(void *, int, usize);
 
-enum { KEYS = 32, MOST = 128, CHUNK = 32768, TEXT = 49152, SERVICES_HELD = 64, ENSEMBLES = 32, OFFERS = 9 };
+enum { KEYS = 32, MOST = 128, CHUNK = 32768, TEXT = 49152 };
 
 struct list { u32 numbers[MOST]; u8 kinds[MOST]; usize len; u8 named; };
 struct entry { u32 key; int on; struct list shown, open; };
 struct field { const u8 *ids; u32 key; u8 more, flag, la, width, qualifier, count; };
 
-/* Of FIG 0/24. A name is OE, P/D and the service's number, in this order; the field names one and so many ensembles. */
-struct ensembles { u16 numbers[ENSEMBLES]; usize len; };
-struct service { u64 name; struct ensembles shown, open; };
-struct offer { const u8 *ids; u64 name; u8 more, count; };
-
 static struct entry table[KEYS];
-static struct service services[SERVICES_HELD];
-static usize held, offered;
+static usize held;
 static u8 chunk[CHUNK], text[TEXT];
 
 #ifdef BIT_BY_BIT
@@ -80,21 +72,6 @@ static int field_at(const u8 *body, usize len, usize *at, struct field *f, int *
     return 1;
 }
 
-/* Reads the field at *at of a FIG 0/24's body; 0 if it does not fit. */
-static int offer_at(const u8 *body, usize len, usize *at, struct offer *o) {
-    u8 h = body[0];
-    usize width = h >> 5 & 1 ? 4 : 2;
-    if (*at + width + 1 > len) return 0;
-    o->name = h >> 5 & 3;
-    for (usize k = 0; k < 4; k++) o->name = o->name << 8 | (k < 4 - width ? 0 : body[*at + k + width - 4]);
-    o->more = h >> 7;
-    o->count = body[*at + width] & 15;
-    o->ids = body + *at + width + 1;
-    if (*at + width + 1 + o->count * 2 > len) return 0;
-    *at += width + 1 + o->count * 2;
-    return 1;
-}
-
 static int add(struct list *l, u8 kind, u32 number) {
     for (usize i = 0; i < l->len; i++) if (l->kinds[i] == kind && l->numbers[i] == number) return 1;
     if (l->len == MOST) return 0;
@@ -143,43 +120,9 @@ static void take_field(const struct field *f) {
     }
 }
 
-static int add_ensembles(struct ensembles *l, const struct offer *o) {
-    for (usize i = 0; i < o->count; i++) {
-        u16 number = o->ids[2 * i] << 8 | o->ids[2 * i + 1];
-        usize k = 0;
-        while (k < l->len && l->numbers[k] != number) k++;
-        if (k < l->len) continue;
-        if (l->len == ENSEMBLES) return 0;
-        l->numbers[l->len++] = number;
-    }
-    return 1;
-}
-
-static void take_offer(const struct offer *o) {
-    usize p = 0;
-    while (p < offered && services[p].name < o->name) p++;
-    int start = o->count && !o->more;
-    struct service *s = services + p;
-    if (p == offered || s->name != o->name) {
-        if (!start || offered == SERVICES_HELD) return;
-        memmove(s + 1, s, (offered - p) * sizeof *s);
-        offered++;
-        s->name = o->name;
-        s->shown.len = s->open.len = 0;
-        add_ensembles(&s->open, o);
-    } else if (start) {
-        if (s->open.len) memcpy(&s->shown, &s->open, sizeof s->open);
-        s->open.len = 0;
-        add_ensembles(&s->open, o);
-    } else if (!o->count || (s->open.len && !add_ensembles(&s->open, o))) {
-        s->open.len = 0;
-    }
-}
-
 static void take_block(const u8 *fib) {
     struct field fields[14];
-    struct offer offers[OFFERS];
-    usize n = 0, m = 0, at = 0;
+    usize n = 0, at = 0;
     int fault = 7;
     if (check_of(fib, 30) != ((u32)fib[30] << 8 | fib[31])) fault = 2;
     while (fault > 3 && at < 30 && fib[at] != 0xFF) {
@@ -189,18 +132,13 @@ static void take_block(const u8 *fib) {
         if (fib[at] >> 5 == 0 && (body[0] & 31) == 6)
             for (usize p = 1; p < len; n++)
                 if (!field_at(body, len, &p, fields + n, &fault)) { fault = 4; break; }
-        if (fib[at] >> 5 == 0 && (body[0] & 31) == 24)
-            for (usize p = 1; p < len; m++)
-                if (!offer_at(body, len, &p, offers + m)) { fault = 4; break; }
         at += 1 + len;
     }
     if (fault < 7) {
         for (usize i = 0; i < held; i++) table[i].open.len = 0;
-        for (usize i = 0; i < offered; i++) services[i].open.len = 0;
         return;
     }
     for (usize i = 0; i < n; i++) take_field(fields + i);
-    for (usize i = 0; i < m; i++) take_offer(offers + i);
 }
 
 static u8 *out = text;
@@ -208,23 +146,16 @@ static void put(const char *s) { while (*s) *out++ = *s++; }
 static void hex(u32 n, int digits) { while (digits--) *out++ = "0123456789ABCDEF"[n >> 4 * digits & 15]; }
 static void dec(usize n) { if (n > 9) dec(n / 10); *out++ = '0' + n % 10; }
 
-#ifdef SERVICES
-static void put_all(usize rest) {
-    usize shown = 0;
-    (void)rest;
-    for (usize i = 0; i < offered; i++) shown += services[i].shown.len > 0;
-    put("services "); dec(shown); put("\n");
-    for (usize i = 0; i < offered; i++) {
-        struct service *s = services + i;
-        if (!s->shown.len) continue;
-        hex((u32)s->name, s->name >> 32 & 1 ? 8 : 4); put(" oe "); dec(s->name >> 33); put(" ensembles "); dec(s->shown.len);
-        for (usize k = 0; k < s->shown.len; k++) { put(" "); hex(s->shown.numbers[k], 4); }
-        put("\n");
+int main(void) {
+    usize n = 0, rest = 0, shown = 0;
+    for (;;) {
+        long got;
+        n = 0;
+        while (n < CHUNK && (got = read(0, chunk + n, CHUNK - n)) > 0) n += got;
+        for (usize i = 0; i + 32 <= n; i += 32) take_block(chunk + i);
+        rest = n % 32;
+        if (n < CHUNK) break;
     }
-}
-#else
-static void put_all(usize rest) {
-    usize shown = 0;
     for (usize i = 0; i < held; i++) shown += table[i].shown.len > 0;
     put("sets "); dec(shown); put("\n");
     for (usize i = 0; i < held; i++) {
@@ -243,20 +174,6 @@ static void put_all(usize rest) {
         put("\n");
     }
     if (rest) { put("tail "); dec(rest); put("\n"); }
-}
-#endif
-
-int main(void) {
-    usize n = 0, rest = 0;
-    for (;;) {
-        long got;
-        n = 0;
-        while (n < CHUNK && (got = read(0, chunk + n, CHUNK - n)) > 0) n += got;
-        for (usize i = 0; i + 32 <= n; i += 32) take_block(chunk + i);
-        rest = n % 32;
-        if (n < CHUNK) break;
-    }
-    put_all(rest);
     for (u8 *p = text; p < out;) { long w = write(1, p, out - p); if (w <= 0) return 1; p += w; }
     return 0;
 }

@@ -1,12 +1,11 @@
-"""Linkage sets and services from the sources, as blocks.
+"""Linkage sets from the sources, as blocks.
 
 Document 000 (TS 103 176) Annex A by table number, document 003 (SRG SSR)
 sections 3.2 and 3.3 by ensemble.  Values only; the rules are document 01's.
-Neither source sends a list of another ensemble, or of a data service in FIG
-0/24; those here are ours.
+Neither source sends a list of another ensemble; the one here is ours.
 """
 
-from making import block, block_of, fig, found, linking_fig, long, offer, services_fig, short, whole_offer
+from making import block, block_of, fig, linking_fig, long, short
 
 DAB, RDS, DRM = 0, 1, 3
 
@@ -67,19 +66,6 @@ A27 = block(linking_fig(0, 0, 0, long(0x3345, 1, DAB, [0xE1C238, 0xE06335])))
 A28 = block(linking_fig(1, 0, 0, long(0x3345, 1, RDS, [0xE1C218]), long(0x3345, 1, DRM, [0xE1C238])))
 A29 = block(linking_fig(0, 0, 0, long(0x3345, 1, DAB, [0xE06335, 0xE1C238])))
 A30 = A28
-
-# Clauses A.2 to A.4 have tables of FIG 0/24 too: services (OE, P/D, number) and the ensembles in which each is found.
-A2 = found((0, 0, 0x42F1), [0x4001, 0x4041, 0x4081])
-A9 = block(services_fig(0, 1, 0, offer((1, 0, 0x6711), [0x6002]), offer((1, 0, 0x6911), [0x6003]),
-                        offer((1, 0, 0x6C11), [0x6004])))
-A12 = found((1, 0, 0x43B9), [0x4041, 0x4081, 0x40C1])
-A13 = found((1, 0, 0x43B1), [0x4001])
-
-# Ours, for document 02, R-4: the data service of A.25 in thirteen ensembles, so in two pieces, and of another ensemble; a
-# round of sets and services.
-DATA = whole_offer((0, 1, 0xE01243B9), [0x4001 + 0x40 * place for place in range(13)])
-DATA_THERE = found((1, 1, 0xE01243B9), [0x4001, 0xE1C2])
-SERVICES = [A4, A2, A9, A12, A13] + DATA + [DATA_THERE, A11]
 
 # Document 003: the set LSN 001 over all services, and one set a region.
 COMMON_FM = 0x43B1

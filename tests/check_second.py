@@ -15,24 +15,21 @@ from itertools import groupby, product
 sys.dont_write_bytecode = True
 
 import cases
-import check_services
-from check_services import mixed_block, random_offers
 from counting import Counting
 from making import (Dice, block, block_of, damaged, linking_fig, long, more, short, start, state, whole_list,
                     with_check)
 from material import (BAD_SHEETS, DAB, DRM, GOOD_SHEETS, RDS, faulty_block, largest_sheet, long_sheet, many_sets,
-                      most_pieces, random_figs, random_keys, random_pairs, random_services, sheet_bytes)
+                      most_pieces, random_figs, random_keys, random_pairs, sheet_bytes)
 from places import COUNTED, PLACES, random_planned
 from second import air, columns, sheet, spoil, stored
 from second.block import check_of, check_passes
 from second.check import report, report_text
-from second.field import NAME
+from second.field import NAME, examine
 from second.listing import listing, table_of
 from second.replay import Replay, run
 from second.table import (LAST_BLOCK, SHOWN_AND_OPENED, Entry, IdList, Table, collect, copy_out, count_block,
                           drop_open_lists, forget, meets_rules, read_block, shown_sets)
 from second.totals import totals_text
-from second.verdict import examine
 
 EXAMPLE = block_of("08 06 E0 04 22 44 B1 44 B1")
 LENGTHS = [1, 1, 2, 2, 3, 6, 7, 8, 9, 12, 13, 14, 24, 25, 36, 127, 128]
@@ -56,7 +53,6 @@ def random_ids(dice, key):
 def random_table(dice, most=32):
     """A table that meets the rules, with entries of every sort, and any count."""
     table = Table(blocks=dice.pick([0, 1, 7, dice.below(1000), dice.word(), LAST_BLOCK - 1, LAST_BLOCK]))
-    table.services = random_offers(Dice(dice.word() + 1), dice.pick([0, 2, 6, 64]))
     for key in random_keys(dice, dice.between(0, most)):
         shown = random_ids(dice, key) if dice.chance(70) else None
         opened = random_ids(dice, key) if dice.chance(50) else None
@@ -216,20 +212,11 @@ def bits_examine(data):
             return 3, 30 - len(bits) // 8, []
         figs.append((bits[:3], bits[8:8 + length], len(bits) - 8 - length))
         bits = bits[8 + length:]
-    fields, everything = [], []
+    fields = []
     for kind, body, after in figs:              # after: how many bits of the data come after this FIG
-        if kind != "000" or body[3:8] not in ("00110", "11000"):
+        if kind != "000" or body[3:8] != "00110":
             continue
         flags, rest = body[:3], body[8:]
-        while rest and body[3:8] == "11000":    # services
-            place, size = 30 - (len(rest) + after) // 8, 32 if flags[2] == "1" else 16
-            form = re.match("(.{%d})....(....)(.*)" % size, rest)
-            count = form and int(form[2], 2) * 16
-            if not form or len(form[3]) < count:
-                return 4, place, []
-            numbers, rest = re.findall(".{16}", form[3][:count]), form[3][count:]
-            service = (int(flags[1]), int(flags[2]), int(form[1], 2))
-            everything.append((place, service, flags[0] == "1", [int(number, 2) for number in numbers]))
         while rest:
             place = 30 - (len(rest) + after) // 8
             listed, la, key, rest = rest[:1], rest[1:2], flags[1:] + rest[2:16], rest[16:]
@@ -245,7 +232,6 @@ def bits_examine(data):
                     numbers.append(int(rest[:size], 2))
                     rest = rest[size:]
             fields.append((place, int(key, 2), flags[0] == "1", la == "1", mark, numbers))
-            everything.append((place, int(key, 2), flags[0] == "1", la == "1", mark and int(mark, 2), numbers))
     for place, key, _, _, mark, _ in fields:
         if key % 4096 == 0:
             return 5, place, []
@@ -254,16 +240,16 @@ def bits_examine(data):
     for place, _, continued, _, mark, numbers in fields:
         if mark and not continued and not numbers:
             return 6, place, []
-    return 0, 0, everything
+    return 0, 0, [(place, key, cn, on, mark and int(mark, 2), numbers) for place, key, cn, on, mark, numbers in fields]
 
 
 def reading_over_bits():
     """The field reader against one that works on a text of bits, on good, faulty and arbitrary blocks."""
     dice = Dice(2)
-    keys, some = random_keys(dice, 10), random_services(dice, 10)
+    keys = random_keys(dice, 10)
     met = set()
-    for _ in range(6500):
-        what = dice.below(7)
+    for _ in range(5000):
+        what = dice.below(5)
         if what == 0:
             data = block(*random_figs(dice, keys))
         elif what == 1:
@@ -274,22 +260,16 @@ def reading_over_bits():
             data = with_check(bytes(spoiled))
         elif what == 3:
             data = random_planned(dice).block()
-        elif what == 4:
-            data = mixed_block(dice, keys, some, 30)
-        elif what == 5:
-            spoiled = bytearray(mixed_block(dice, keys, some, 0)[:30])
-            spoiled[dice.below(12)] ^= 1 << dice.below(8)
-            data = with_check(bytes(spoiled))
         else:
             data = bytes(dice.below(256) for _ in range(30))
-            begin = dice.pick(["06 06", "1D 06", "05 86", "1D 26", "", "06 18", "1D 18", "05 98", "1D 38"])
-            data = with_check((bytes.fromhex(begin) + data)[:30])
+            data = with_check(dice.pick([b"\x06\x06", b"\x1d\x06", b"\x05\x86", b"\x1d\x26", b""]) + data)[:30]
+            data = with_check(data)
         outcome, place, fields = examine(data)
         assert (outcome, place, [tuple(field) for field in fields]) == bits_examine(data), data.hex()
         met.add((outcome, place))
-    every = {(outcome, place) for outcome in PLACES for place in PLACES[outcome]} | {(0, 0), (2, 0)}
+    every = {(outcome, place) for outcome in PLACES for place in PLACES[outcome]} | {(0, 0)}
     assert met <= every and len(met) >= 100, (met - every, len(met))
-    return "6500 blocks, %d outcomes with their places" % len(met)
+    return "5000 blocks, %d outcomes with their places" % len(met)
 
 
 def counted_places():
@@ -478,7 +458,6 @@ def sheets_back():
         again = loaded(data)
         assert meets_rules(again) and shows(again) == shows(table)
         assert all(entry.open is None and entry.confirmed == 0 for entry in again.values()) and again.blocks == 0
-        assert not again.services
         assert sheet.sheet_of(shown_sets(again)) == data
         assert seen.setdefault(data, shows(table)) == shows(table)
     return "%d tables" % len(tables)
@@ -550,12 +529,9 @@ def rules_kept():
     for count in (1, 3, 10, 33, 50):
         table = random_table(dice, 5)
         keys = random_keys(dice, count) + sorted(table)
-        some = random_services(dice, count + 20) + sorted(table.services)
         for _ in range(150):
             if dice.chance(6):
                 forget(table, dice.pick(keys))
-            elif dice.chance(40):
-                read_block(table, mixed_block(dice, keys, some, 4))
             elif dice.chance(2):
                 table = loaded(sheet.sheet_of(shown_sets(random_table(dice, 10))))
             else:
@@ -664,7 +640,7 @@ def totals_by_hand():
         assert run(script.encode())[count:] == ["totals " + figures]
     script = ["b " + data.hex() for data in (EXAMPLE, EXAMPLE, block_of("03 06 20 04"), damaged(EXAMPLE))]
     script += ["totals", "x 22", "totals", "u", "totals", "f 2004", "totals", "l 01844001010200B1890101B18901"]
-    script += ["totals", "totals 1", "totals ", "x 28", "x 27", "totals", "l", "totals", "x 24", "totals", "t", "e"]
+    script += ["totals", "totals 1", "totals ", "x 21", "x 27", "totals", "l", "totals", "x 24", "totals", "t", "e"]
     assert run("\n".join(script + ["totals"]).encode()) == [
         "b 0 1", "b 0 2", "b 0 7", "b 2 @0", "totals 1 0 2", "x", "totals 9", "u", "totals 1 0 2", "f 0",
         "totals 0 0 0", "l 0", "totals 1 1 2", "?", "?", "?", "?", "totals 1 1 2", "l 10", "totals 0 0 0", "x",
@@ -733,8 +709,7 @@ def totals_of_recordings():
 
 
 TAKES_TABLE = ["b", "b " + EXAMPLE.hex(), "b " + damaged(EXAMPLE).hex(), "f 2004", "f 0", "c 2004 9 9", "c 0 0 0",
-               "a 0", "a 140000", "s 0", "s 32768", "t", "totals", "forget 0 0 5", "copy 0 0 5 0", "services 0",
-               "services 8192", "held"]
+               "a 0", "a 140000", "s 0", "s 32768", "t", "totals"]
 
 
 def refused_by_all(form):
@@ -1099,10 +1074,9 @@ def any_line():
     dice = Dice(12)
     replay = Replay()
     for _ in range(3000):
-        words = [dice.pick(["b", "f", "c", "a", "s", "l", "x", "u", "e", "", "t ", "\r", "totals", "count", "forget",
-                            "copy", "services", "held "])]
-        words += [dice.pick(["0", "9", "2004", "1F", "16", "22", "25", "4294967295", "-", "?", "\xff", "", "00", "1"])
-                  for _ in range(dice.below(5))]
+        words = [dice.pick(["b", "f", "c", "a", "s", "l", "x", "u", "e", "", "t ", "\r", "totals", "count"])]
+        words += [dice.pick(["0", "9", "2004", "1F", "16", "22", "25", "4294967295", "-", "?", "\xff", "", "00"])
+                  for _ in range(dice.below(4))]
         line = " ".join(words).encode("latin-1")
         assert len(replay.answer(line)) == (1 if line else 0), line
     return "3000 lines"
@@ -1112,7 +1086,7 @@ CHECKS = [block_check, examples, decided_points, other_ensemble, reading_over_bi
           reports, random_reports, plain_reader, air_read_back, sheets_back, sheets_accepted, rules_kept, refusals,
           bounds, every_small_set, totals_by_hand, totals_kept, totals_of_recordings, wrong_figures, numbers_by_hand,
           showings_by_hand, numbers_kept, numbers_of_recordings, wrong_numbers, numbers_not_shown, better_and_worse,
-          where_it_fails, spoilings, any_stored_form, any_line, *check_services.CHECKS]
+          where_it_fails, spoilings, any_stored_form, any_line]
 
 
 def main():

@@ -613,7 +613,7 @@ NOT_COMMANDS = [
     "count 00000000001", "count 04294967295", "count \xb9", "count \u0661", "count\t1", "count 1\t", "count 1\r",
     "count\0", "count 1\0", "count1", "coun 1", "coun", "counts 1", "counts", "Count 1", "COUNT 1", "counT 1",
     "count count", "c count 1", "t count", "t #1", "t 1 #1", "totals #1", "totals count", "xcount 1", "count" * 13,
-    "x 31", "x 28", "x 27", "x 30", "x 00000000025", "x 25 ", "x  25", "x 25 1", "x +25", "x 25h", "x 250",
+    "x 17", "x 21", "x 27", "x 30", "x 00000000025", "x 25 ", "x  25", "x 25 1", "x +25", "x 25h", "x 250",
     "x 4294967321", "c 2004 2 2 #2", "c 2004 #2 2"]
 
 ODD_COMMANDS = ["count 0000000003", "count 4294967295", "count 0000000000", "count 2", "x 0000000025", "u", "t"]

@@ -6,8 +6,7 @@ where none has since the table was taken, loaded, or the key forgotten.  What
 `t` and `c` print is held to that, in every script.
 """
 
-from second.field import Field
-from second.verdict import examine
+from second.field import examine
 
 STOP = 4294967295
 
@@ -47,7 +46,7 @@ class Counting:
             fields = examine(bytes.fromhex(words[0]))[2]
             assert len(fields) == len(notes), answers
             for field, note in zip(fields, notes):
-                if note == "2" and isinstance(field, Field):        # a service has no number
+                if note == "2":
                     met.append(self.showing(numbers.get(field.key, 0), count))
                     numbers[field.key] = count
         self.now = count, numbers

@@ -16,7 +16,6 @@ import cases
 from folder import write_files
 from making import block_of, damaged
 from second.listing import listing
-from second.where import services_text
 
 HERE = os.path.dirname(os.path.abspath(__file__))
 
@@ -25,8 +24,6 @@ HEAD = """# Example recordings
 Each file is a row of whole blocks of 32 bytes. To list one:
 
     bin/linkage list examples/swiss-4001-common.fib
-
-`bin/linkage services` lists the services of one and the ensembles in which each is found; services.fib alone has such.
 
 They are made by `python3 tests/make_examples.py`, and `python3 tests/check_vectors.py` makes them again and compares.
 Documents 000 and 003 are ETSI TS 103 176 and the SRG SSR paper on service linking.
@@ -94,15 +91,8 @@ def recordings():
         ("other-ensemble", [cases.TUNED, cases.OTHER] * 2,
          "one list of two FM codes, of the tuned ensemble (OE 0: its first is a DAB service) and of another (OE 1: an FM code)",
          "ours, with codes of 000, A.5, table A.16", 2),
-        ("services", cases.SERVICES * 2,
-         "regional variations, DAB and DAB+, and eight services with the ensembles in which each is found: of the tuned ensemble"
-         " and of others, two of them data services, one in two pieces",
-         "000, A.2 to A.4, tables A.2, A.4, A.9, A.11 to A.13; the data services are ours", 4),
     ]
     return rows
-
-
-SERVICES_SHOWN = {"services": 8}        # none in the others
 
 
 def all_files():
@@ -111,8 +101,6 @@ def all_files():
     for name, blocks, holds, source, count in recordings():
         recording = b"".join(blocks)
         assert listing(recording)[0] == "sets %d" % count, (name, listing(recording))
-        services = services_text(recording).splitlines()
-        assert services[0] == "services %d" % SERVICES_SHOWN.get(name, 0), (name, services)
         files[name + ".fib"] = recording
         lines.append("| %s.fib | %s | %s | %d |\n" % (name, holds, source, count))
     files["README.md"] = (HEAD + "".join(lines)).encode("ascii")

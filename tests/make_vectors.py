@@ -19,14 +19,11 @@ import confirmed
 import other
 import places
 import scenes
-import services
-import services_spoiled
 import totals
 from folder import write_files
-from making import (Dice, block, block_of, damaged, found, found_more, linking_fig, long, more, start, state,
-                    whole_list, with_check)
-from material import (DAB, DRM, FLAGS, RDS, faulty_block, faulty_mixed, largest_sheet, long_sheet, mixed_figs,
-                      most_pieces, random_figs, random_keys, random_pairs, random_services, sheet_bytes)
+from making import Dice, block, block_of, damaged, linking_fig, long, more, start, state, whole_list, with_check
+from material import (DAB, DRM, FLAGS, RDS, faulty_block, largest_sheet, long_sheet, most_pieces, random_figs,
+                      random_keys, random_pairs, sheet_bytes)
 from scenes import EXAMPLE
 from script import LETTERS, Script
 from second.check import report_text
@@ -34,7 +31,6 @@ from second.columns import OF_A_RECORDING, csv_text, table_text
 from second.figs import figs_text
 from second.listing import listing_text, table_of
 from second.totals import totals_text
-from second.where import services_text
 
 HERE = os.path.dirname(os.path.abspath(__file__))
 
@@ -67,20 +63,6 @@ CONFIRMED_REACH = (ALL_REACH[:ALL_REACH.index("?") + 1] + ["totals 9", "count"]
                    + ["b %d is not counted" % outcome for outcome in (1, 9)]
                    + ["shown", "shown again", "shown twice in a block", "shown at the stop"]
                    + ["count gives a good table", "count gives a bad table"])
-# Every answer of the words on services; every note by each kind of field that can have it, at 64 services too; every
-# way of spoiling; lists that each refusal drops.
-SERVICES_REACH = (["forget 0", "forget 7", "forget 9", "copy 0", "copy 7", "copy 8", "copy 9", "copy 11", "services 0",
-                   "services 8", "services 9", "held", "held 9", "?", "totals 9", "l 0", "l 10", "count"]
-                  + ["note %d" % note for note in range(1, 10)]
-                  + ["x %d done" % way for way in services_spoiled.ALL_WAYS]
-                  + ["x %d ?" % way for way in services_spoiled.WAYS if way != 18]
-                  + ["b %d drops services' lists" % outcome for outcome in (2, 3, 4, 5, 6)]
-                  + ["start, %s: note %d" % what for what in (("not held", 1), ("not held of 64", 5), ("closed", 1),
-                                                              ("open", 2), ("open of 64", 2), ("closed of 64", 1))]
-                  + ["more, %s: note %d" % what for what in (("not held", 8), ("not held of 64", 8), ("closed", 4),
-                                                             ("open", 3), ("open", 6))]
-                  + ["%s of 0, %s: note %d" % (kind, *what) for kind in ("start", "more") for what in (
-                      ("not held", 8), ("not held of 64", 8), ("closed", 9), ("open", 9))])
 # A shown set that begins with each kind: with OE 1 any, of 16 and 24 bits.
 FIRST_SHOWN = ["[%s]... (on|off) #[0-9]+ shown %s D" % where for where in (("0-3", "."), ("4-7", "0"), ("C-F", "0"))]
 FIRST_SHOWN += ["[%s]... (on|off) #[0-9]+ shown . %s" % (key, letter) for key in ("8A", "9B") for letter in "DRM"]
@@ -379,44 +361,6 @@ def confirmed_script():
     return script
 
 
-# services.in
-
-
-def services_script():
-    """Document 02, R-4: services, and the ensembles in which each is found."""
-    script = Script((*LETTERS, "totals", "count", *services.WORDS))
-    services.by_hand(script)
-    services.annex(script)
-    services.upper_bits(script)
-    services.starts(script)
-    services.in_one_block(script)
-    services.both_families(script)
-    services.repeats(script)
-    services.lengths(script)
-    services.count_0(script)
-    services.full_table(script)
-    services.full_in_one_block(script)
-    services.names(script)
-    services.counted_by_hand(script)
-    services.every_cut(script)
-    services.refused(script)
-    services.forgotten(script)
-    services.copies(script)
-    services.cuts(script)
-    services.writing(script)
-    services.most_of_all(script)
-    services.loads(script)
-    services.numbers_and_totals(script)
-    services.receptions(script)
-    services_spoiled.each_spoiling(script)
-    services_spoiled.every_way(script)
-    services_spoiled.needed(script)
-    services_spoiled.spoiled_twice(script)
-    services_spoiled.grammar(script)
-    services_spoiled.random_scenes(script, Dice(20240408), 180)
-    return script
-
-
 # large.in
 
 
@@ -549,63 +493,6 @@ tail 7
 """
 
 
-SERVICES = """services 8
-42F1 oe 0 ensembles 3 4001 4041 4081
-E01243B9 oe 0 ensembles 13 4001 4041 4081 40C1 4101 4141 4181 41C1 4201 4241 4281 42C1 4301
-43B1 oe 1 ensembles 1 4001
-43B9 oe 1 ensembles 3 4041 4081 40C1
-6711 oe 1 ensembles 1 6002
-6911 oe 1 ensembles 1 6003
-6C11 oe 1 ensembles 1 6004
-E01243B9 oe 1 ensembles 2 4001 E1C2
-"""
-
-
-def refused_services():
-    """Services among refused blocks, sets beside them; a rest of three bytes.
-
-    One is shown before a FIG 0/24 that does not fit, one after it alone; one
-    is ended by count 0, one was open when a block was refused; and one list
-    is shown that was shown before, without what a refused block had.
-    """
-    one, two, three = (0, 0, 0x42F1), (1, 1, 0x42F1), (0, 0, 0x42F2)
-    wrong = [block_of(text) for text in ("06 18 42 F1 01 40 01 02 18 42", "05 38 E0 12 43 B9", "02 18 42 03 06 20 00",
-                                         "04 18 42 F1 00 03 06 20 00", "04 06 E0 04 00 04 18 42 F1 00")]
-    return b"".join([EXAMPLE, found(one, [1, 2]), found(one, [3]), wrong[0], found(two, [4]), wrong[1], found(two, [5])]
-                    + [found_more(two, [6]), found(two, [7]), wrong[2], found(three, [8]), found(three, [])]
-                    + [found(three, [9]), EXAMPLE, EXAMPLE, wrong[3], found(one, [1]), wrong[4]]
-                    + [damaged(found(one, [2])), found(one, [3]), found(one, [3])]) + EXAMPLE[:3]
-
-
-REFUSED_SERVICES = """services 2
-42F1 oe 0 ensembles 1 0003
-000042F1 oe 1 ensembles 2 0005 0006
-"""
-REFUSED_SERVICES_CHECK = """block 4: 4 at byte 9, wrong field
-block 6: 4 at byte 2, wrong field
-block 10: 4 at byte 2, wrong field
-block 16: 5 at byte 7, wrong value
-block 18: 6 at byte 2, empty start
-block 19: 2, check fails
-blocks 21, refused 6
-rest 3
-"""
-
-
-def full_services():
-    """66 services, each sent twice, and 33 sets: two services and one set find no room, twice."""
-    many = enumerate(services.services_of(66))
-    blocks = [found(service, services.numbers(1 + place % 12)) for place, service in many]
-    return b"".join((blocks + [start(0x2001 + place, 1, DAB, [1]) for place in range(33)]) * 2)
-
-
-def mixed_recording(dice, count):
-    """Blocks of both families, one in fifty refused; more services than find room."""
-    keys, some = random_keys(dice, 20), random_services(dice, 70)
-    return [faulty_mixed(dice, keys, some, [dice.between(2, 6)]) if dice.chance(2)
-            else block(*mixed_figs(dice, keys, some)) for _ in range(count)]
-
-
 def random_recording(dice, count):
     """Blocks of forty keys, one in twenty refused."""
     keys = random_keys(dice, 40)
@@ -639,10 +526,6 @@ def recordings():
         "confirmed": last_shown(),
         "full": full_recording(dice),
         "random": b"".join(random_recording(dice, 1000)),
-        "services": b"".join(cases.SERVICES * 2),
-        "services-refused": refused_services(),
-        "services-full": full_services(),
-        "services-random": b"".join(mixed_recording(Dice(20240409), 600)),
     }
 
 
@@ -679,7 +562,7 @@ def all_files():
     """Path under the folder and bytes of every vector file, and what each script met."""
     scripts = {"examples": examples(), "annex": annex(), "read": read_only(), "random": random_script(),
                "places": places_script(), "other": other_script(), "totals": totals_script(),
-               "confirmed": confirmed_script(), "services": services_script(), "large": large()}
+               "confirmed": confirmed_script(), "large": large()}
     reached("read", scripts["read"], READ_REACH)
     reached("random", scripts["random"], ALL_REACH)
     reached("places", scripts["places"], PLACE_REACH)
@@ -690,9 +573,6 @@ def all_files():
     reached("confirmed", scripts["confirmed"], CONFIRMED_REACH)
     answered("confirmed", scripts["confirmed"], ["t 0 #0$", "t 32 #4294967295$", "2004 on #4294967295 shown",
                                                  "c 0 2004 on 1 #7 D44B1", "c 0 2004 (on|off) . #4294967295 "])
-    reached("services", scripts["services"], SERVICES_REACH)
-    answered("services", scripts["services"], ["held 64$", "services 0 [0-9A-F]{12288} kept$",
-                                               "copy 0( [0-9A-F]{4}){32} kept$"])
     for name in ("read", "random", "other"):
         answered(name, scripts[name], FIRST_SHOWN)
     assert scripts["read"].seen["commands"] >= 1500 and scripts["random"].seen["commands"] >= 3000
@@ -711,13 +591,7 @@ def all_files():
         files["listing/" + name + ".check"] = report_text(recording).encode("ascii")
         files["listing/" + name + ".totals"] = totals_text(recording).encode("ascii")
         files["listing/" + name + ".csv"] = csv_text(table_of(recording), OF_A_RECORDING).encode("ascii")
-        files["listing/" + name + ".services"] = services_text(recording).encode("ascii")
-    for name, text in (("confirmed.confirmed", LAST_SHOWN), ("services.services", SERVICES),
-                       ("services-refused.services", REFUSED_SERVICES),
-                       ("services-refused.check", REFUSED_SERVICES_CHECK),
-                       ("services-full.check", "blocks 198, refused 0\nstarts without room 6\n"),
-                       ("widths.services", "services 0\n")):
-        assert files["listing/" + name].decode() == text, (name, files["listing/" + name].decode())
+    assert files["listing/confirmed.confirmed"].decode() == LAST_SHOWN
     return files, {name: script.seen for name, script in scripts.items()}
 
 

@@ -81,45 +81,6 @@ def linking_fig(continued, oe, pd, *fields):
     return fig(0, bytes([continued << 7 | oe << 6 | pd << 5 | 6]) + b"".join(fields))
 
 
-def services_fig(continued, oe, pd, *fields):
-    """A FIG 0/24 with these fields."""
-    return fig(0, bytes([continued << 7 | oe << 6 | pd << 5 | 24]) + b"".join(fields))
-
-
-def offer(service, ensembles, upper=0):
-    """A field that finds a service (OE, P/D, number) in these ensembles; `upper` is Rfa and CAId."""
-    _, pd, number = service
-    head = number.to_bytes(4 if pd else 2, "big") + bytes([upper << 4 | len(ensembles)])
-    return head + b"".join(one.to_bytes(2, "big") for one in ensembles)
-
-
-def fig_of(service, continued, *fields):
-    """A FIG 0/24 whose OE and P/D are those of the service."""
-    return services_fig(continued, service[0], service[1], *fields)
-
-
-def found(service, ensembles, upper=0):
-    """A block with one start of a service; without ensembles it is count 0."""
-    return block(fig_of(service, 0, offer(service, ensembles, upper=upper)))
-
-
-def found_more(service, ensembles, upper=0):
-    """A block with one continuation of a service."""
-    return block(fig_of(service, 1, offer(service, ensembles, upper=upper)))
-
-
-def places_for(service):
-    """Ensembles that fit a piece."""
-    return 11 if service[1] else 12
-
-
-def whole_offer(service, ensembles):
-    """Blocks of a start and its continuations."""
-    size = places_for(service)
-    return [(found_more if first else found)(service, ensembles[first:first + size])
-            for first in range(0, len(ensembles), size)]
-
-
 def id_size(key):
     """Bytes of an identifier under this key."""
     return 4 if key & 0x4000 else 3 if key & 0x1000 else 2

@@ -3,7 +3,7 @@
 Random where a dice is given, fixed where not.
 """
 
-from making import block, damaged, fig, fig_for, fig_of, id_size, long, offer, short
+from making import block, damaged, fig, fig_for, id_size, long, short
 from second.sheet import number_bytes
 
 DAB, RDS, DRM = 0, 1, 3
@@ -80,53 +80,9 @@ def other_fig(dice, space):
     length = dice.between(1, space - 1)
     body = bytearray(dice.below(256) for _ in range(length))
     kind = dice.below(8)
-    if kind == 0 and body[0] & 31 in (6, 24):
+    if kind == 0 and body[0] & 31 == 6:
         body[0] ^= 1
     return fig(kind, bytes(body))
-
-
-def random_services(dice, count):
-    """Services, many of them alike but for OE, P/D or the upper half of their number; in any order."""
-    services = set()
-    while len(services) < count:
-        number = dice.pick([dice.below(8), dice.word() & 0xFFFF])
-        for pd, upper in ((0, 0), (1, 0), (1, dice.word() & 0xFFFF0000)):
-            if dice.chance(50):
-                services.add((dice.below(2), pd, upper | number))
-    return dice.some(sorted(services), count)
-
-
-def random_ensemble(dice):
-    """Often small, so that numbers repeat."""
-    return dice.below(12) if dice.chance(50) else dice.pick([0xFFFF, dice.word() & 0xFFFF])
-
-
-def random_services_fig(dice, services, space):
-    """A good FIG 0/24 of at most `space` bytes for some of these services, without a field where none fits."""
-    first = dice.pick(services)
-    alike = [service for service in services if service[:2] == first[:2]]
-    head, left, fields = 5 if first[1] else 3, space - 2, []
-    while left >= head and not (fields and dice.chance(40)):
-        most = min(15, (left - head) // 2)
-        count = 0 if dice.chance(15) else most if dice.chance(20) else dice.between(0, min(most, 4))
-        ensembles = [random_ensemble(dice) for _ in range(count)]
-        fields.append(offer(dice.pick(alike), ensembles, upper=dice.pick([0, 0, dice.below(16)])))
-        left -= len(fields[-1])
-    return fig_of(first, dice.below(2), *fields)
-
-
-def mixed_figs(dice, keys, services, space=30):
-    """Good FIGs of both families and others, of at most `space` bytes together."""
-    figs, left = [], space
-    while left >= 4 and not (figs and dice.chance(30)):
-        what = dice.below(100)
-        if what < 60:
-            one = random_services_fig(dice, services, left)
-        else:
-            one = random_linking_fig(dice, keys, left) if what < 90 else other_fig(dice, left)
-        figs.append(one)
-        left -= len(one)
-    return figs
 
 
 def random_figs(dice, keys, space=30):
@@ -166,12 +122,6 @@ EMPTY_STARTS = [bytes.fromhex(text) for text in (       # outcome 6
 
 FAULTS = {4: WRONG_FIELDS, 5: FORBIDDEN, 6: EMPTY_STARTS}
 
-WRONG_OFFERS = [bytes.fromhex(text) for text in (       # outcome 4 of FIG 0/24, each at its first field
-    # a number cut, no count, too few ensembles, an ensemble cut
-    "02 18 42", "03 18 42 F1", "04 18 42 F1 01", "05 18 42 F1 01 40", "07 18 42 F1 02 40 01 40", "06 98 42 F1 02 40 01",
-    "02 38 E0", "03 38 E0 12", "04 38 E0 12 43", "05 38 E0 12 43 B9", "06 38 E0 12 43 B9 01",
-    "07 78 E0 12 43 B9 01 40", "09 F8 E0 12 43 B9 02 40 01 40", "04 58 42 F1 0F", "04 D8 42 F1 F1")]
-
 LATER_FIELDS = {bytes.fromhex(text): byte for text, byte in (       # where it is not the FIG's first field
     ("04 06 20 04 20", 4), ("07 06 E0 04 01 44 B1 20", 7), ("04 06 20 00 04", 4), ("05 06 E0 04 00 36", 5),
     ("05 06 20 04 20 00", 4), ("06 06 20 04 A0 05 00", 4))}
@@ -190,21 +140,6 @@ def wrong_length(dice, left):
     kind = dice.below(7)
     body = dice.pick([b"\x06", b"\x01", b"\xff", b"\0"]) * (left - 1)
     return bytes([kind << 5 | length]) + body
-
-
-def faulty_mixed(dice, keys, services, outcomes):
-    """A block with these outcomes' faults (2 to 6), those of 4 in either family, among good FIGs of both."""
-    faults = {**FAULTS, 4: WRONG_FIELDS + WRONG_OFFERS}
-    figs = [dice.pick(faults[outcome]) for outcome in outcomes if outcome in faults]
-    for _ in range(2):
-        left = 29 - sum(len(one) for one in figs)
-        if left >= 8 and dice.chance(60):
-            figs.append(dice.pick([random_services_fig(dice, services, left), random_linking_fig(dice, keys, left)]))
-    figs = dice.shuffled(figs)
-    if 3 in outcomes:
-        figs.append(wrong_length(dice, 30 - sum(len(one) for one in figs)))
-    whole = block(*figs)
-    return damaged(whole, dice.below(256)) if 2 in outcomes else whole
 
 
 def faulty_block(dice, keys, outcomes):

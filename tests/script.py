@@ -3,11 +3,9 @@
 from collections import Counter
 
 from counting import Counting
-from holding import Holding
 from second import stored
-from second.air import blocks_of, service_blocks
+from second.air import blocks_of
 from second.replay import Replay
-from second.services import shown_services
 from second.sheet import sheet_of
 from second.table import shown_sets
 
@@ -24,7 +22,6 @@ class Script:
         self.answers = []
         self.seen = Counter()
         self.counting = Counting()  # holds the numbers that are printed to the notes
-        self.holding = Holding()    # and the services
         self.figures = None         # the totals when they were last asked for, None after 9
         self.since = []             # what was done since
 
@@ -37,8 +34,7 @@ class Script:
         self.answers += answers
         self.seen["commands"] += 1
         if answers and answers != ["?"]:
-            for follower in (self.counting, self.holding):
-                self.seen.update(follower.saw(line.decode("ascii"), answers))
+            self.seen.update(self.counting.saw(line.decode("ascii"), answers))
         return answers
 
     def do(self, text):
@@ -58,7 +54,7 @@ class Script:
         letter, outcome = words[0], words[1] if len(words) > 1 else ""
         if letter == "x":
             what = "x %d %s" % (int(text.split(" ")[1]), outcome or "done")
-        elif letter in ("t", "totals", "held"):
+        elif letter in ("t", "totals"):
             what = answer if answers == [letter + " 9"] else letter
         else:
             what = (letter + " " + outcome).strip()
@@ -116,12 +112,6 @@ class Script:
 
     def air_length(self):
         return 32 * len(blocks_of(self.shown()))
-
-    def services(self):
-        return shown_services(self.table().services)
-
-    def services_length(self):
-        return 32 * len(service_blocks(self.services()))
 
     def sheet(self):
         return sheet_of(self.shown())

@@ -551,7 +551,7 @@ NOT_COMMANDS = [
     "totals 3", "totals ", " totals", "totals totals", "totals\t", "totals\r", "totals\0", "totals 0 0 0", "totals?",
     "totalss", "total", "tot", "to", "tt", "t totals", "Totals", "TOTALS", "totalS", "totals\x85", "t0tals", "totals  ",
     "e totals", "b totals", "xtotals", "x totals", "totals" * 11,
-    "x 29", "x 30", "x 31", "x 32", "x 33", "x 27", "x 28", "x 00000000022", "x 22 ", "x  22", "x 22 1", "x +22",
+    "x 17", "x 18", "x 19", "x 20", "x 21", "x 27", "x 28", "x 00000000022", "x 22 ", "x  22", "x 22 1", "x +22",
     "x 22x", "x 16h", "x 220", "x 4294967318"]
 
 
@@ -565,7 +565,7 @@ def grammar(script):
     assert script.raw(b"") == []
     is_now(script, 1, 1, 2)
     assert script.do("x 0000000024") == "x"
-    for text in NOT_COMMANDS[:3] + ["x 29", "x 33", "x 27"]:
+    for text in NOT_COMMANDS[:3] + ["x 17", "x 21", "x 27"]:
         assert script.raw(text.encode("utf-8")) == ["?"], text
     is_wrong(script)
     script.do("u")

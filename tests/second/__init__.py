@@ -5,16 +5,13 @@ two can be held against each other.  Read the modules in this order, each
 beside its section of document 01:
 
     block.py    The block              field.py    The linking field
-    verdict.py  Numbered outcomes      notes.py    Collecting, the notes
     table.py    Collecting             stored.py   Table rules, stored form
     air.py      Writing for air        sheet.py    The stored sheet
     listing.py  Examples, 16           replay.py, spoil.py   the test scripts
 
-columns.py, figs.py, check.py, totals.py and where.py print what `linkage list
---table`, `list --csv`, `figs`, `check`, `totals` and `services` print.  Places
-are those of document 02, R-1; what begins a set whose OE is 1 is R-3's
-(field.py, first_is_service); services and the ensembles in which they are found
-are R-4's (services.py; their writer is in air.py); the totals are R-7's
-(table.py, totals); the count of blocks and the numbers of sets are R-9's
-(table.py, count_block, start).
+columns.py, figs.py, check.py and totals.py print what `linkage list --table`,
+`list --csv`, `figs`, `check` and `totals` print.  Places are those of document
+02, R-1; what begins a set whose OE is 1 is R-3's (field.py, first_is_service);
+the totals are R-7's (table.py, totals); the count of blocks and the numbers of
+sets are R-9's (table.py, count_block, start).
 """

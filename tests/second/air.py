@@ -1,15 +1,12 @@
-"""Writing the shown sets for air, and the shown services: one piece, one FIG, one block.
+"""Writing the shown sets for air: one piece, one FIG, one block.
 
-Document 01, Writing for air; document 02, R-3, for what a start takes, and R-4
-for the services.
+Document 01, Writing for air; document 02, R-3, for what a start takes.
 """
 
 from second import block as fib
 from second import field as linking
-from second import services as offers
 
 ROOM = {16: 12, 24: 8, 32: 6}   # identifiers in one piece, by width
-ENSEMBLES = {16: 12, 32: 11}    # ensembles in one piece, by the width of the service's number
 
 
 def run_length(pairs):
@@ -43,8 +40,14 @@ def pieces_of(key, ids):
     return pieces
 
 
-def block_with(body):
-    """The block of one FIG of type 0 with this body, FF, zeros, check."""
+def block_of(key, on, piece):
+    """The block that carries one piece: its FIG, FF, zeros, check."""
+    continued, qualifier, numbers = piece
+    flags = (0x80 if continued else 0) | (key & (linking.OE | linking.PD)) >> 9 | linking.LINKING
+    head = 0x8000 | (0x4000 if on else 0) | key & (linking.HARD | linking.ILS | linking.LSN)
+    body = bytes([flags]) + head.to_bytes(2, "big") + bytes([qualifier << 5 | len(numbers)])
+    for number in numbers:
+        body += number.to_bytes(linking.width(key) // 8, "big")
     data = bytes([len(body)]) + body
     if len(data) < fib.DATA_SIZE:
         data += bytes([fib.END_OF_FIGS])
@@ -52,60 +55,15 @@ def block_with(body):
     return data + fib.check_of(data).to_bytes(2, "big")
 
 
-def block_of(key, on, piece):
-    """The block that carries one piece."""
-    continued, qualifier, numbers = piece
-    flags = (0x80 if continued else 0) | (key & (linking.OE | linking.PD)) >> 9 | linking.LINKING
-    head = 0x8000 | (0x4000 if on else 0) | key & (linking.HARD | linking.ILS | linking.LSN)
-    body = bytes([flags]) + head.to_bytes(2, "big") + bytes([qualifier << 5 | len(numbers)])
-    for number in numbers:
-        body += number.to_bytes(linking.width(key) // 8, "big")
-    return block_with(body)
-
-
 def blocks_of(shown):
     """The blocks of these shown sets, given as (key, entry) in ascending key order."""
     return [block_of(key, entry.on, piece) for key, entry in shown for piece in pieces_of(key, entry.shown)]
 
 
-# Services
-
-
-def service_block(service, ensembles, continued):
-    """The block that carries these ensembles of a service, in a start or a continuation; Rfa and CAId are 0."""
-    oe, pd, number = service
-    flags = continued << 7 | oe << 6 | pd << 5 | offers.SERVICES
-    numbers = number.to_bytes(offers.width(service) // 8, "big") + bytes([len(ensembles)])
-    return block_with(bytes([flags]) + numbers + b"".join(one.to_bytes(2, "big") for one in ensembles))
-
-
-def service_blocks(shown):
-    """The blocks of these shown services, given as (service, ensembles) in order; what fits a block goes into it."""
-    blocks = []
-    for service, ensembles in shown:
-        room = ENSEMBLES[offers.width(service)]
-        blocks += [service_block(service, ensembles[first:first + room], first > 0)
-                   for first in range(0, len(ensembles), room)]
-    return blocks
-
-
-# Lent buffers
-
-
-def write_into(buffer, blocks):
-    """Answers (0, bytes written) or (8, 0), the rest of the buffer untouched."""
-    output = b"".join(blocks)
+def write(shown, buffer):
+    """Writes into the lent buffer; answers (0, bytes written) or (8, 0), the rest of the buffer untouched."""
+    output = b"".join(blocks_of(shown))
     if len(buffer) < len(output):
         return 8, 0
     buffer[:len(output)] = output
     return 0, len(output)
-
-
-def write(shown, buffer):
-    """Writes the shown sets into the lent buffer."""
-    return write_into(buffer, blocks_of(shown))
-
-
-def write_services(shown, buffer):
-    """Writes the shown services into the lent buffer."""
-    return write_into(buffer, service_blocks(shown))

@@ -1,10 +1,12 @@
 """The linking field: service linking is FIG type 0, extension 6.
 
-Document 01, The linking field, and outcomes 4 to 6 of Numbered outcomes;
+Document 01, The linking field, and outcomes 1 to 6 of Numbered outcomes;
 document 02, R-1, for the place of a refusal, R-3 for the first identifier.
 """
 
 from collections import namedtuple
+
+from second import block as fib
 
 DAB, RDS, DRM = 0, 1, 3       # kinds; 3 is DRM or AMSS; 2 is reserved
 KINDS = (DAB, RDS, DRM)
@@ -107,3 +109,34 @@ def is_forbidden(field):
 def is_empty_start(field):
     """Outcome 6: a start with count 0."""
     return is_start(field) and not field.numbers
+
+
+def walk(data):
+    """All fields of the thirty data bytes, and all faults as (outcome 3 to 6, place), in any order."""
+    figs, wrong = fib.figs_of(data)
+    faults = [] if wrong is None else [(3, wrong)]
+    fields = []
+    for fig in filter(is_linking, figs):
+        more, misfit = fields_of_fig(fig)
+        fields += more
+        faults += [] if misfit is None else [(4, misfit)]
+    faults += [(5, field.place) for field in fields if is_forbidden(field)]
+    faults += [(6, field.place) for field in fields if is_empty_start(field)]
+    return fields, faults
+
+
+def examine(block):
+    """(0, 0, fields in order) for a block that may be taken, else (outcome 1 to 6, place, []).
+
+    Each outcome is looked for over the whole block before the next, and the
+    first fault of that outcome gives the place: the least fault of all.
+    """
+    if len(block) != fib.BLOCK_SIZE:
+        return 1, 0, []
+    if not fib.check_passes(block):
+        return 2, 0, []
+    fields, faults = walk(block[:fib.DATA_SIZE])
+    if faults:
+        outcome, place = min(faults)
+        return outcome, place, []
+    return 0, 0, fields

@@ -17,42 +17,25 @@ if __name__ == "__main__":
     sys.path.insert(0, os.path.dirname(os.path.dirname(os.path.abspath(__file__))))
 
 from second import air, sheet, spoil, stored
-from second import services as offers
 from second import table as tables
 from second.listing import id_texts, key_text, number_text, on_text
 from second.table import LAST_BLOCK, Table, shown_sets
-from second.where import ensemble_texts
-from second.where import number_text as service_text
 
 LONGEST_LINE = 65536        # without its LF
 MOST_BLOCK_BYTES = 64
 MOST_COPIED = 256
 MOST_AIR_BYTES = 140000
 MOST_SHEET_BYTES = 32768
-MOST_ENSEMBLES = 64
-MOST_SERVICE_BYTES = 8192
 FILLING = 0xAA              # what lent buffers hold before a call
 
 DECIMAL = "([0-9]{1,10})"
 BYTES = "(?: ((?:[0-9A-Fa-f]{2})+))?"
 KEY = "([0-9A-Fa-f]{1,8})"
-SERVICE = "([01]) ([01]) " + KEY
 
 
 def list_words(key, ids):
     """V IDS.., or `-` where there is no list."""
     return ["-"] if ids is None else [str(ids.named)] + id_texts(key, ids.pairs)
-
-
-def ensemble_words(ensembles):
-    """ENS.., or `-` where there is no list."""
-    return ["-"] if ensembles is None else ensemble_texts(ensembles)
-
-
-def service_of(words):
-    """OE, P/D and number of a service, from the words that name it."""
-    oe, pd, number = words
-    return int(oe), int(pd), int(number, 16)
 
 
 def block_words(outcome, place=0, notes=()):
@@ -65,10 +48,10 @@ def kept_word(rest, filling):
     return "kept" if all(place == filling for place in rest) else "changed"
 
 
-def write_words(writer, shown, size):
+def write_words(writer, table, size):
     """Lends a buffer of this size to a writer: O, then after 0 the bytes or `-`, then kept or changed."""
     buffer = bytearray([FILLING]) * size
-    outcome, length = writer(shown, buffer)
+    outcome, length = writer(shown_sets(table), buffer)
     words = [str(outcome)]
     if outcome == 0:
         words.append(bytes(buffer[:length]).hex().upper() or "-")
@@ -125,22 +108,18 @@ class Replay:
         both_kept = {kept_word(numbers[length:], number_filling), kept_word(kinds[length:], FILLING)} == {"kept"}
         return [" ".join(words + ["kept" if both_kept else "changed"])]
 
-    def write(self, word, writer, shown_of, size, most):
+    def write(self, letter, writer, size, most):
         if size > most:
             return None
         table = stored.fetch(self.stored)
-        words = ["9", "kept"] if table is None else write_words(writer, shown_of(table), size)
-        return [" ".join([word] + words)]
+        words = ["9", "kept"] if table is None else write_words(writer, table, size)
+        return [" ".join([letter] + words)]
 
     def write_air(self, size):
-        return self.write("a", air.write, shown_sets, int(size), MOST_AIR_BYTES)
+        return self.write("a", air.write, int(size), MOST_AIR_BYTES)
 
     def write_sheet(self, size):
-        return self.write("s", sheet.write, shown_sets, int(size), MOST_SHEET_BYTES)
-
-    def write_services(self, size):
-        return self.write("services", air.write_services, lambda table: offers.shown_services(table.services),
-                          int(size), MOST_SERVICE_BYTES)
+        return self.write("s", sheet.write, int(size), MOST_SHEET_BYTES)
 
     def load(self, digits):
         outcome, table = sheet.load(bytes.fromhex(digits or ""))
@@ -163,37 +142,6 @@ class Replay:
         if stored.fetch(self.stored) is None:
             return ["totals 9"]
         return ["totals %d %d %d" % (self.stored.shown, self.stored.on, self.stored.identifiers)]
-
-    def forget_service(self, *words):
-        table = stored.fetch(self.stored)
-        if table is None:
-            return ["forget 9"]
-        outcome = offers.forget(table.services, service_of(words))
-        self.stored = stored.store(table)
-        return ["forget %d" % outcome]
-
-    def copy_service(self, *words):
-        *words, size = words
-        if int(size) > MOST_ENSEMBLES:
-            return None
-        service, filling = service_of(words), FILLING * 0x0101
-        buffer = [filling] * int(size)
-        table = stored.fetch(self.stored)
-        outcome = 9 if table is None else offers.copy_out(table.services, service, buffer)
-        length = len(table.services[service].shown) if outcome == 0 else 0
-        words = ["copy", str(outcome)] + ensemble_texts(buffer[:length])
-        return [" ".join(words + [kept_word(buffer[length:], filling)])]
-
-    def print_services(self):
-        table = stored.fetch(self.stored)
-        if table is None:
-            return ["held 9"]
-        lines = ["held %d" % len(table.services)]
-        for service in sorted(table.services):
-            entry = table.services[service]
-            words = [str(service[0]), str(service[1]), service_text(service), "shown"]
-            lines.append(" ".join(words + ensemble_words(entry.shown) + ["open"] + ensemble_words(entry.open)))
-        return lines
 
     def set_count(self, number):
         if int(number) > LAST_BLOCK:
@@ -228,10 +176,6 @@ class Replay:
         ("u", unspoil),
         ("totals", print_totals),
         ("count " + DECIMAL, set_count),
-        ("forget " + SERVICE, forget_service),
-        ("copy %s %s" % (SERVICE, DECIMAL), copy_service),
-        ("services " + DECIMAL, write_services),
-        ("held", print_services),
     )]
 
     def answer(self, line):

@@ -21,12 +21,6 @@ assignment given here on the stored form of stored.py, and nothing else:
      14   first with a shown set                   shown named gets bit 4
      15   first with a shown set and P/D 1         shown named = 1
      16   first with an open list of 2 or more     open pair 1 = open pair 0
-     17   held services at least 2                 services 0 and 1 change places
-     18   nothing                                  held services = 65
-     19   first service with a shown list of 2     its second shown ensemble = its first
-          or more
-     20   held services below 64                   number of the first that is not held = 1
-     21   first held service with P/D 0            its number = 65536
      22   nothing                                  the figure of shown sets is one higher
      23   nothing                                  the figure of those that are on is one higher
      24   nothing                                  the figure of their identifiers is one higher
@@ -34,20 +28,16 @@ assignment given here on the stored form of stored.py, and nothing else:
           first entry with a shown set             its number = blocks + 1
      26   first of the held without a shown set    its number = 1
 
-Held are the entries below the count, all of them where that is above 32, and
-the services below theirs, all of them where that is above 64; "first service"
-is the lowest of the 64, and its list is there when its length is 1 to 32.
+Held are the entries below the count, all of them where that is above 32.
 Where the need is not met nothing is spoiled.  No other number is a way.
 """
 
 import copy
 
-from second import services as offers
 from second.field import PD, first_is_service, width
-from second.services import MOST_SERVICES
 from second.table import LAST_BLOCK, LONGEST, MOST_KEYS
 
-WAYS = range(1, 27)
+WAYS = (*range(1, 17), *range(22, 27))
 
 
 def is_there(ids):
@@ -194,43 +184,6 @@ def open_pair_twice(table):
     return True
 
 
-def swap_services(table):
-    if table.held < 2:
-        return False
-    services = table.services
-    services[0], services[1] = services[1], services[0]
-    return True
-
-
-def too_many_services(table):
-    table.held = MOST_SERVICES + 1
-    return True
-
-
-def ensemble_twice(table):
-    lists = (service.shown for service in table.services if 2 <= service.shown.length <= offers.LONGEST)
-    shown = next(lists, None)
-    if shown is None:
-        return False
-    shown.numbers[1] = shown.numbers[0]
-    return True
-
-
-def unused_service_numbered(table):
-    if table.held >= MOST_SERVICES:
-        return False
-    table.services[table.held].number = 1
-    return True
-
-
-def service_too_large(table):
-    service = next((service for service in table.services[:table.held] if service.pd == 0), None)
-    if service is None:
-        return False
-    service.number = 65536
-    return True
-
-
 def one_shown_more(table):
     table.shown += 1
     return True
@@ -267,7 +220,6 @@ SPOIL = dict(zip(WAYS, (
     swap_entries, too_many_entries, key_twice, key_too_large, key_without_lsn, unused_entry_on,
     list_too_long, past_the_end, shown_pair_twice, first_is_rds, number_too_large, kind_two,
     present_not_named, named_four, data_with_name, open_pair_twice,
-    swap_services, too_many_services, ensemble_twice, unused_service_numbered, service_too_large,
     one_shown_more, one_on_more, one_identifier_more, number_above_count, number_without_set)))
 
 

@@ -1,19 +1,17 @@
 """The table of linkage sets: collecting, forgetting, copying out, and its rules.
 
 Document 01, Collecting.  A table is a dictionary from held keys to entries,
-with a count of the blocks read into it (document 02, R-9), and beside it the
-services (R-4, services.py).
+with a count of the blocks read into it (document 02, R-9).
 """
 
 from second import field as linking
-from second import services as offers
-from second.notes import (ADDED, DROPPED, OPENED, SHOWN_AND_OPENED, SKIPPED_FULL, SKIPPED_NO_LIST, STATE_ONLY,
-                          UNKNOWN_KEY)
-from second.verdict import examine
 
 MOST_KEYS = 32
 LONGEST = 128
 LAST_BLOCK = (1 << 32) - 1      # where the count of blocks stops
+
+OPENED, SHOWN_AND_OPENED, ADDED, SKIPPED_NO_LIST = 1, 2, 3, 4
+SKIPPED_FULL, DROPPED, STATE_ONLY, UNKNOWN_KEY = 5, 6, 7, 8
 
 
 class IdList:
@@ -59,18 +57,14 @@ class Entry:
 
 
 class Table(dict):
-    """Held keys with their entries, services, and how many blocks were counted; the empty table has counted none."""
+    """Held keys with their entries, and how many blocks were counted; the empty table has counted none."""
 
-    def __init__(self, entries=(), blocks=0, services=()):
+    def __init__(self, entries=(), blocks=0):
         super().__init__(entries)
         self.blocks = blocks
-        self.services = dict(services)
-
-    def beside(self):
-        return self.blocks, self.services
 
     def __eq__(self, other):
-        return isinstance(other, Table) and dict.__eq__(self, other) and self.beside() == other.beside()
+        return isinstance(other, Table) and dict.__eq__(self, other) and self.blocks == other.blocks
 
     def __ne__(self, other):
         return not self == other
@@ -126,13 +120,7 @@ def continuation(entry, field):
 
 
 def collect(table, field):
-    """Lets one field of a taken block, of either family, work on the table; answers its note."""
-    if isinstance(field, offers.ServiceField):
-        return offers.collect(table.services, field)
-    return collect_link(table, field)
-
-
-def collect_link(table, field):
+    """Lets one field of a taken block work on the table; answers its note."""
     if linking.is_start(field):
         note = start(table, field)
     elif field.key not in table:
@@ -147,8 +135,7 @@ def collect_link(table, field):
 
 
 def drop_open_lists(table):
-    """Those of both families."""
-    for entry in (*table.values(), *table.services.values()):
+    for entry in table.values():
         entry.open = None
 
 
@@ -159,7 +146,7 @@ def count_block(table):
 
 def read_block(table, block):
     """Reads one block into the table; answers (outcome, place, notes).  A refused one is counted too, but for 1."""
-    outcome, place, fields = examine(block)
+    outcome, place, fields = linking.examine(block)
     if outcome != 1:
         count_block(table)
     if outcome >= 2:
@@ -220,8 +207,8 @@ def number_meets_rules(table, entry):
 
 
 def meets_rules(table):
-    """The table rules of document 01, with R-9's and R-4's (that keys differ is in the nature of a dictionary)."""
-    if len(table) > MOST_KEYS or not offers.meets_rules(table.services):
+    """The table rules of document 01, with R-9's (that keys differ is in the nature of a dictionary)."""
+    if len(table) > MOST_KEYS:
         return False
     for key, entry in table.items():
         if key >= 65536 or key & linking.LSN == 0 or not number_meets_rules(table, entry):

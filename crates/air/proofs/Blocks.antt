@@ -1,7 +1,7 @@
 -- A piece as a block (document 01, Writing for air). In order: eight bits to a byte; its FIG byte by byte; the block that is made
--- in an array of zeros and finished.
-use Prim.Native.Nat.{ℕ, zero, suc, ◌+◌, ◌-◌, ◌*◌, ◌/◌, ◌%◌, ◌^◌, ◌≤◌, ◌<◌, min}
-use native.Mathlib.Nat.{le_of_suc-le-suc, mul-suc, pow-suc, pow-le-pow_right, lt_of_lt_of_le, div-eq_of_lt}
+-- in an array of zeros.
+use Prim.Native.Nat.{ℕ, zero, suc, ◌+◌, ◌-◌, ◌*◌, ◌/◌, ◌%◌, ◌^◌, ◌≤◌}
+use native.Mathlib.Nat.{le_of_suc-le-suc, mul-suc, pow-suc}
 use native.Mathlib.Omega.{arith}
 use mathlib.Core.Path.{◌≡◌, refl, sym, ap, ◌∙◌}
 use mathlib.Core.Bool.{Bool, not}
@@ -15,21 +15,16 @@ use Rattle.rules.specs.Collecting.{key_width}
 use Rattle.pieces.specs.Air.{all_bytes, field_bytes, fig_bytes, block_of}
 use Rattle.pieces.proofs.BlockBack.{all_length, fig_length}
 use Rattle.out.specs.Put.{Puts}
-use Rattle.out.proofs.Runs.{puts_then}
+use Rattle.out.proofs.Runs.{puts_length, puts_then}
 use Rattle.out.proofs.Answers.{sets_front}
 use Rattle.air.specs.declared.Part.{Part}
 use Rattle.air.specs.Parts.{piece_in, Fitting}
-use Rattle.air.specs.Closing.{finished}
 
 -- eight bits to a byte
 pub eight_bits : (k : ℕ) → 2 ^ (8 * k) ≡ 256 ^ k
 eight_bits zero = refl
 eight_bits (suc k) =
     ap (λ (m : ℕ). 2 ^ m) (mul-suc 8 k) ∙ pow-add 2 (8 * k) 8 ∙ ap (λ (m : ℕ). m * 256) (eight_bits k) ∙ sym (pow-suc 256 k)
-
--- a number of 32 bits has four
-pub high_byte : (n k : ℕ) → n < 2 ^ 32 → 4 ≤ k → 0 ≡ n / 256 ^ k % 256
-high_byte n k h e = sym (ap (λ (m : ℕ). m % 256) (div-eq_of_lt (lt_of_lt_of_le h (pow-le-pow_right {n = 256} (omega arith) e))))
 
 -- the FIG of a piece, byte by byte
 pub fig_made : (key : ℕ) (on : Bool) (p : Part) (ns : List ℕ) (w count more state : ℕ) → w ≡ key_width key → count ≡ p.to - p.from → p.to ≤ length ns
@@ -85,27 +80,26 @@ data_front fs n h g =
     ap (λ (k : ℕ). take k (fs ++ 255 ∷ replicate n 0)) e ∙ take-append-add fs (255 ∷ replicate n 0) (suc (29 - length fs))
     ∙ ap (λ (r : List ℕ). fs ++ 255 ∷ r) (zeros_take (29 - length fs) n (omega arith))
 
--- a FIG is put into 32 zeros, and the block is finished
-module _ (fs : List ℕ) (few : length fs ≤ 29) {m : List ℕ} {j : ℕ} (fig : Puts (replicate 32 0) 0 fs m j) where
-  block_data_law : take 30 (set m j 255) ≡ take 30 (fs ++ 255 ∷ replicate 30 0)
+-- a FIG and FF are put into 32 zeros
+module _ (fs : List ℕ) (few : length fs ≤ 29) {m n : List ℕ} {j k : ℕ} (fig : Puts (replicate 32 0) 0 fs m j) (end' : Puts m j (255 ∷ []) n k) where
+  pub block_long : length n ≡ 32
+  block_long = puts_length end' ∙ puts_length fig
+
+  block_data_law : take 30 n ≡ take 30 (fs ++ 255 ∷ replicate 30 0)
   unfolding zeros
   block_data_law =
       let us : List ℕ = fs ++ 255 ∷ [] in
       let l : length us ≡ length fs + 1 = length-append fs (255 ∷ []) in
-      let end' : Puts m j (255 ∷ []) (set m j 255) (min (j + 1) (length m)) = record { stored = refl; after = refl } in
-      let all : set m j 255 ≡ us ++ drop (length us) (replicate 32 0) = (puts_then fig end').stored ∙ sets_front us (replicate 32 0) (omega arith) in
+      let all : n ≡ us ++ drop (length us) (replicate 32 0) = (puts_then fig end').stored ∙ sets_front us (replicate 32 0) (omega arith) in
       ap (take 30) (all ∙ ap (λ (r : List ℕ). us ++ r) (zeros_drop (length us) 32) ∙ append_assoc fs (255 ∷ []) (replicate (32 - length us) 0))
       ∙ data_front fs (32 - length us) few (omega arith) ∙ sym (data_front fs 30 few (omega arith))
 
-  pub block_finished : finished m j ≡ block_of fs
-  unfolding finished block_of
-  block_finished = λ i. block_data_law i ++ (check_of (block_data_law i) / 256) ∷ (check_of (block_data_law i) % 256) ∷ []
-
--- the check after the first 30 bytes of 32
-pub check_put : (n : List ℕ) → length n ≡ 32 → (check : ℕ) → check ≡ check_of (take 30 n)
-    → set (set n 30 (check / 256)) 31 (check % 256) ≡ take 30 n ++ (check_of (take 30 n) / 256) ∷ (check_of (take 30 n) % 256) ∷ []
-check_put n long check e =
-    sets-eq ((check / 256) ∷ (check % 256) ∷ []) n 30 (omega (arith, long))
-    ∙ ap (λ (r : List ℕ). take 30 n ++ (check / 256) ∷ (check % 256) ∷ [] ++ r) (drop_of_length-le n {i = 32} (omega (arith, long)))
-    ∙ append-nil (take 30 n ++ (check / 256) ∷ (check % 256) ∷ [])
-    ∙ λ i. take 30 n ++ (e i / 256) ∷ (e i % 256) ∷ []
+  -- and the check after the first 30 bytes
+  pub block_made : (check : ℕ) → check ≡ check_of (take 30 n) → set (set n 30 (check / 256)) 31 (check % 256) ≡ block_of fs
+  unfolding block_of
+  block_made check e =
+      let d : check ≡ check_of (take 30 (fs ++ 255 ∷ replicate 30 0)) = e ∙ ap check_of block_data_law in
+      sets-eq ((check / 256) ∷ (check % 256) ∷ []) n 30 (omega (arith, block_long))
+      ∙ ap (λ (r : List ℕ). take 30 n ++ (check / 256) ∷ (check % 256) ∷ [] ++ r) (drop_of_length-le n {i = 32} (omega (arith, block_long)))
+      ∙ append-nil (take 30 n ++ (check / 256) ∷ (check % 256) ∷ [])
+      ∙ λ i. block_data_law i ++ (d i / 256) ∷ (d i % 256) ∷ []

@@ -1,5 +1,5 @@
 // Writing the shown sets of a table for air (document 01, Writing for air): whole blocks into a lent
-// buffer. Every function is proved, and none that is `pub` has a `requires`.
+// buffer. Every function is proved, and write_air, the one that is `pub`, has no `requires`.
 // A set is cut by places: a piece is a range of the set's identifiers (specs/Parts.antt).
 ghost use Rattle.std.specs.Prelude.{◌≡◌, ◌+◌, ◌*◌, ◌/◌, ◌%◌, ◌^◌, ◌≤◌, ◌<◌, length, take};
 ghost use Rattle.std.proofs.Math.Seq.{slice};
@@ -12,7 +12,6 @@ ghost use Rattle.sets.specs.Shown.{set_in, shown_as, sets_from};
 ghost use Rattle.out.specs.Put.{Puts};
 ghost use Rattle.out.specs.Answer.{Outputs};
 ghost use Rattle.air.specs.Parts.{run, qualifier_at, part_at, piece_in, Fitting};
-ghost use Rattle.air.specs.Closing.{finished};
 
 use lists::{IdList, is_dead};
 use out::Written;
@@ -30,7 +29,7 @@ struct Part {
 }
 
 // 1 or 0.
-pub fn bit_of(b: bool) -> usize
+fn bit_of(b: bool) -> usize
     ensures { (result ≡ bit b) × (result ≤ 1) }
 {
     if b { 1 } else { 0 }
@@ -146,17 +145,15 @@ fn piece_count(list: IdList, key: u32) -> usize
 
 // The byte of a number at a place, place 0 the lowest.
 fn byte_at(n: u32, place: usize) -> u8
+    requires { place < 4 }
     ensures { result ≡ n / 256 ^ place % 256 }
 {
-    if place < 4 {
-        ((n >> (8 * place)) % 256) as u8
-    } else {
-        0
-    }
+    ((n >> (8 * place)) % 256) as u8
 }
 
 // A number in this many bytes, the highest first, at a place, and the place after it.
-pub fn put_number(out: &mut [u8], at: usize, width: usize, n: u32) -> usize
+fn put_number(out: &mut [u8], at: usize, width: usize, n: u32) -> usize
+    requires { width ≤ 4 }
     ensures { Puts out.old at (big_bytes width n) out.new result }
 {
     let mut p = lists::least(at, out.len());
@@ -177,7 +174,7 @@ fn put_numbers(
     from: usize,
     to: usize,
 ) -> usize
-    requires { (from ≤ to) × (to ≤ length numbers.now) }
+    requires { (width ≤ 4) × (from ≤ to) × (to ≤ length numbers.now) }
     ensures { Puts out.old at (all_bytes width (slice from to numbers.now)) out.new result }
 {
     let mut p = lists::least(at, out.len());
@@ -212,19 +209,6 @@ fn put_fig(out: &mut [u8], key: u32, on: bool, part: Part, numbers: &[u32]) -> u
     put_numbers(out, p, width, numbers, from, to)
 }
 
-// A block of which all that comes before a place is there, and zeros behind it: with FF at that place, and the check of
-// its first 30 bytes in the last two.
-pub fn finish_block(block: [u8; 32], end: usize) -> [u8; 32]
-    ensures { result ≡ finished block end }
-{
-    let mut whole = block;
-    out::put(&mut whole, end, 255);
-    let check = crc::check_of(&whole[..30]);
-    whole[30] = (check / 256) as u8;
-    whole[31] = (check % 256) as u8;
-    whole
-}
-
 // The block of a piece: its FIG, FF, zeros, and the check of the 30 bytes before it.
 fn block_of(key: u32, on: bool, part: Part, numbers: &[u32]) -> [u8; 32]
     requires { Fitting key (length numbers.now) part }
@@ -232,7 +216,11 @@ fn block_of(key: u32, on: bool, part: Part, numbers: &[u32]) -> [u8; 32]
 {
     let mut block = [0u8; 32];
     let end = put_fig(&mut block, key, on, part, numbers);
-    finish_block(block, end)
+    out::put(&mut block, end, 255);
+    let check = crc::check_of(&block[..30]);
+    block[30] = (check / 256) as u8;
+    block[31] = (check % 256) as u8;
+    block
 }
 
 // The block of a piece at a place, and the place after it.

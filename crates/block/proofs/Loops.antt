@@ -1,21 +1,16 @@
--- The loops of a block, in this order: a body's bytes and the fields found there, of linking and of services; the loop over the fields of
--- a body, of either family: its invariant, its first turn, a field more, its end and its break; the loop over the FIGs of a block likewise.
+-- The two loops of a block, in this order: a body's bytes and the fields found there; the loop over the fields of a body, its
+-- invariant, its first turn, a field more, its end and its break; the loop over the FIGs of a block likewise.
 use Prim.Native.Nat.{ℕ, zero, suc, ◌+◌, ◌*◌, ◌-◌, ◌≤◌, ◌<◌}
 use native.Mathlib.Omega.{arith}
-use mathlib.Core.Path.{◌≡◌, refl, sym, ap, ap₂, ◌∙◌, subst}
+use mathlib.Core.Path.{◌≡◌, refl, sym, ap, ap₂, ◌∙◌}
 use mathlib.Core.Bool.{Bool, true, false, cond}
 use mathlib.Core.List.{List, [], ◌∷◌, ◌++◌, map}
 use lib.ListN.{length, take, drop, length-take, length-drop}
-use lib.Dec.{eqb}
-use borrow.Author.Tests.{eqb-true}
 use Rattle.rules.specs.declared.Outcome.TheVariants.{WrongFig}
 use Rattle.rules.specs.Block.{Placed, Walk, whole, broken, after, walk, Fig as FigOf, fig_at, figs}
-use Rattle.rules.specs.Block.{Step, item, end, wrong}
-use Rattle.rules.specs.Field.{is_linking, wrong_value, empty_start}
-use Rattle.rules.specs.Services.{is_services}
-use Rattle.rules.specs.Outcomes.{Carried, linking as ofLinking, service as ofService, carries, step_as, carried_at, fields_of, wrong_carried, empty_carried, joined, judge_figs}
-use Rattle.rules.proofs.Basics.{and_left, or_left, or_right, or_neither}
-use Rattle.rules.proofs.Taken.{walk_item, walk_end, walk_wrong, block_item, block_wrong, carried_linking, carried_service, carried_item}
+use Rattle.rules.specs.Field.{is_linking, field_at, fields_of, wrong_value, empty_start}
+use Rattle.rules.specs.Outcomes.{joined, judge_figs}
+use Rattle.rules.proofs.Taken.{walk_item, walk_end, walk_wrong, block_item, block_wrong, field_item}
 use Rattle.figs.specs.declared.Cursor.{Cursor}
 use Rattle.figs.specs.declared.FigStep.{FigStep}
 use Rattle.figs.specs.declared.FigStep.TheVariants.{Fig, End as FigEnd, Wrong as FigWrong}
@@ -26,19 +21,14 @@ use Rattle.field.specs.declared.FieldStep.{FieldStep}
 use Rattle.field.specs.declared.FieldStep.TheVariants.{Found, End, Wrong}
 use Rattle.field.specs.FieldStep.{linking, field_step_at, meaning, found}
 use Rattle.field.proofs.Laws.{field_step_at_means, wrong_value_means, empty_start_means}
-use Rattle.servicefield.specs.declared.ServiceField.{ServiceField}
-use Rattle.servicefield.specs.declared.ServiceStep.TheVariants.{Found as FoundService, End as NoService, Wrong as WrongService}
-use Rattle.servicefield.specs.ServiceStep as Service
-use Rattle.servicefield.specs.ServiceStep.{says_services, service_step_at}
-use Rattle.servicefield.proofs.Laws.{service_step_at_means}
 use Rattle.block.specs.declared.Spots.{Spots}
 use Rattle.block.specs.declared.Fault.{Fault}
 use Rattle.block.specs.declared.Pushed.{Pushed}
 use Rattle.block.specs.declared.Judged.{Judged}
-use Rattle.block.specs.Judged.{is_service, Located, spot_of, map_walk, standing, located_of, located, no_spots, store_spots, judged_as}
-use Rattle.block.specs.Faults.{class_in, worse, fault_at, no_fault, fault_of, judge_from, fig_in, located_from, located_in, CanPush, Pushes, Concludes, JudgesFigs}
+use Rattle.block.specs.Judged.{Located, spot_of, map_walk, standing, located_of, located, no_spots, store_spots, judged_as}
+use Rattle.block.specs.Faults.{class_in, worse, fault_at, no_fault, fault_of, judge_from, located_from, located_in, CanPush, Pushes, Concludes, JudgesFigs}
 use Rattle.block.proofs.Walks.{joined_none, joined_after, map_after}
-use Rattle.block.proofs.Verdicts.{worse_first, worse_class, worse_field, fault_of_range, judge_after, judge_broken, judge_figs_from, figs_first, figs_after, figs_over, figs_none, figs_wrong}
+use Rattle.block.proofs.Verdicts.{worse_class, worse_field, fault_of_range, judge_after, judge_broken, judge_figs_from, figs_first, figs_after, figs_over, figs_none, figs_wrong}
 use Rattle.block.proofs.Storing.{stored_none, with_spot, stored_more}
 
 -- ---- a field that is found
@@ -50,66 +40,34 @@ body fib start stop = take (stop - start) (drop start fib)
 body_length : (fib : List ℕ) (start stop : ℕ) → length fib ≡ 32 → stop ≤ 30 → length (body fib start stop) ≡ stop - start
 body_length fib start stop l h = length-take (stop - start) (drop start fib) ∙ omega (arith, length-drop start fib)
 
--- what the rules find at a place of a linking FIG, and of another, by what the code does
-module _ (fib : List ℕ) (start stop at : ℕ) where
-  module _ (l : is_linking (fig_in fib start stop) ≡ true) where
-    linking_as : (s : FieldStep) → field_step_at (body fib start stop) at ≡ s → carried_at (fig_in fib start stop) at ≡ step_as ofLinking (found (body fib start stop) s)
-    linking_as s e =
-        carried_linking (fig_in fib start stop) at l ∙ ap (step_as ofLinking) (sym (field_step_at_means (body fib start stop) at) ∙ ap (found (body fib start stop)) e)
+-- what the rules find at a place, by what the code does
+stands_as : (bytes : List ℕ) (at : ℕ) (s : FieldStep) → field_step_at bytes at ≡ s → field_at bytes at ≡ found bytes s
+stands_as bytes at s e = sym (field_step_at_means bytes at) ∙ ap (found bytes) e
 
-    pub linking_found : (f : Field) (next : ℕ) → field_step_at (body fib start stop) at ≡ Found f next
-        → carried_at (fig_in fib start stop) at ≡ item (ofLinking (meaning (body fib start stop) f)) next
-    unfolding step_as found
-    linking_found f next e = linking_as (Found f next) e
+-- a field that the code finds at a place of a body, with its spot
+abbrev spotted : List ℕ → ℕ → ℕ → ℕ → Field → Located
+spotted fib start stop at f = standing start stop (record { place = start + at; what = meaning (body fib start stop) f })
 
-    pub linking_end : field_step_at (body fib start stop) at ≡ End → carried_at (fig_in fib start stop) at ≡ end
-    unfolding step_as found
-    linking_end e = linking_as End e
-
-    pub linking_wrong : field_step_at (body fib start stop) at ≡ Wrong → carried_at (fig_in fib start stop) at ≡ wrong
-    unfolding step_as found
-    linking_wrong e = linking_as Wrong e
-
-  module _ (l : is_linking (fig_in fib start stop) ≡ false) where
-    service_as : (s : _) → service_step_at (body fib start stop) at ≡ s → carried_at (fig_in fib start stop) at ≡ step_as ofService (Service.found (body fib start stop) s)
-    service_as s e =
-        carried_service (fig_in fib start stop) at l ∙ ap (step_as ofService) (sym (service_step_at_means (body fib start stop) at) ∙ ap (Service.found (body fib start stop)) e)
-
-    pub service_found : (f : ServiceField) (next : ℕ) → service_step_at (body fib start stop) at ≡ FoundService f next
-        → carried_at (fig_in fib start stop) at ≡ item (ofService (Service.meaning (body fib start stop) f)) next
-    unfolding step_as Service.found
-    service_found f next e = service_as (FoundService f next) e
-
-    pub service_end : service_step_at (body fib start stop) at ≡ NoService → carried_at (fig_in fib start stop) at ≡ end
-    unfolding step_as Service.found
-    service_end e = service_as NoService e
-
-    pub service_wrong : service_step_at (body fib start stop) at ≡ WrongService → carried_at (fig_in fib start stop) at ≡ wrong
-    unfolding step_as Service.found
-    service_wrong e = service_as WrongService e
-
--- a field that is found at a place of a body, with its spot
-abbrev spotted : ℕ → ℕ → ℕ → Carried → Located
-spotted start stop at c = standing start stop (record { place = start + at; what = c })
-
--- the fields of a body from a place on, by what stands there
+-- the fields of a body from a place on, by what the code finds there
 module _ (fib : List ℕ) (start stop n at : ℕ) where
-  from_found : (c : Carried) (next : ℕ) → carried_at (fig_in fib start stop) at ≡ item c next
-      → located_from fib start stop (suc n) at ≡ after (spotted start stop at c) (located_from fib start stop n next)
-  unfolding located_from
-  from_found c next e =
-      ap (map_walk (standing start stop)) (walk_item start (carried_at (fig_in fib start stop)) n at _ next e)
-      ∙ map_after (standing start stop) _ (walk start (carried_at (fig_in fib start stop)) n next)
+  from_found : (f : Field) (next : ℕ) → field_step_at (body fib start stop) at ≡ Found f next
+      → located_from fib start stop (suc n) at ≡ after (spotted fib start stop at f) (located_from fib start stop n next)
+  unfolding located_from found
+  from_found f next e =
+      ap (map_walk (standing start stop))
+      (walk_item start (field_at (body fib start stop)) n at _ next (stands_as (body fib start stop) at (Found f next) e))
+      ∙ map_after (standing start stop) _ (walk start (field_at (body fib start stop)) n next)
 
-  from_end : carried_at (fig_in fib start stop) at ≡ end → located_from fib start stop (suc n) at ≡ whole []
-  unfolding located_from map_walk
-  from_end e = ap (map_walk (standing start stop)) (walk_end start (carried_at (fig_in fib start stop)) n at e)
+  from_end : field_step_at (body fib start stop) at ≡ End → located_from fib start stop (suc n) at ≡ whole []
+  unfolding located_from found map_walk
+  from_end e =
+      ap (map_walk (standing start stop)) (walk_end start (field_at (body fib start stop)) n at (stands_as (body fib start stop) at End e))
 
-  from_wrong : carried_at (fig_in fib start stop) at ≡ wrong → located_from fib start stop (suc n) at ≡ broken (start + at)
-  unfolding located_from map_walk
-  from_wrong e = ap (map_walk (standing start stop)) (walk_wrong start (carried_at (fig_in fib start stop)) n at e)
+  from_wrong : field_step_at (body fib start stop) at ≡ Wrong → located_from fib start stop (suc n) at ≡ broken (start + at)
+  unfolding located_from found map_walk
+  from_wrong e =
+      ap (map_walk (standing start stop)) (walk_wrong start (field_at (body fib start stop)) n at (stands_as (body fib start stop) at Wrong e))
 
--- the class of a linking field's fault by the code; a field of services has none
 class_means : (bytes : List ℕ) (f : Field) → class_in f ≡ cond (wrong_value (meaning bytes f)) 5 (cond (empty_start (meaning bytes f)) 6 7)
 unfolding class_in
 class_means bytes f = ap₂ (λ (b c : Bool). cond b 5 (cond c 6 7)) (wrong_value_means bytes f) (empty_start_means bytes f)
@@ -170,10 +128,11 @@ module _ (fib : List ℕ) (start stop : ℕ) (fault₀ : Fault) (spots₀ : Spot
         ∙ ap (λ (v : Walk Located). judge_from fault (so.fields ls q).0 (joined v rest))
         (ap (λ (k : ℕ). located_from fib start stop k at) fewer_is ∙ e)
 
-  module _ (c : Carried) (next : ℕ) (e : carried_at (fig_in fib start stop) at ≡ item c next) where
+  module _ (f : Field) (next : ℕ) (e : field_step_at (body fib start stop) at ≡ Found f next) where
     stands : (at + 2 ≤ next) × (start + next ≤ stop)
+    unfolding found
     stands =
-        let s = carried_item (fig_in fib start stop) at c next e in
+        let s = field_item (body fib start stop) at (meaning (body fib start stop) f) next (stands_as (body fib start stop) at (Found f next) e) in
         (s.from, omega (arith, s.inside, body_length fib start stop block inside, so.within))
 
     pub field_room : spots.count < 14
@@ -183,10 +142,10 @@ module _ (fib : List ℕ) (start stop : ℕ) (fault₀ : Fault) (spots₀ : Spot
     field_goes_on = omega (arith, stands)
 
     -- a field more
-    pub fields_next : (fault' : Fault) → fault' ≡ worse fault (fault_of (spotted start stop at c).field)
-        → FieldsSoFar fib start stop fault₀ spots₀ fault' (with_spot spots (record { start = start; end = stop; place = at; service = is_service c })) next
-    fields_next fault' same =
-        let g = (spotted start stop at c).field in
+    pub fields_next : FieldsSoFar fib start stop fault₀ spots₀ (worse fault (fault_at (class_in f) (start + at))) (with_spot spots (record { start = start; end = stop; place = at })) next
+    fields_next =
+        let g = (spotted fib start stop at f).field in
+        let same = worse_field g fault (class_in f) so.most (class_means (body fib start stop) f) in
         let class = ap (λ (x : Fault). x.class) same ∙ worse_class fault (fault_of g) in
         record {
           within = stands.1;
@@ -196,37 +155,23 @@ module _ (fib : List ℕ) (start stop : ℕ) (fault₀ : Fault) (spots₀ : Spot
           fields = λ ls q.
               let more = (so.fields ls q).0 in
               let n = fewer ls q in
-              let l = spotted start stop at c in
+              let l = spotted fib start stop at f in
               let w = located_from fib start stop n next in
               let place : at ≡ start + at - start = omega arith in (
                 more ++ l ∷ [],
                 n,
                 omega (arith, stands, (so.fields ls q).2, fewer_is ls q),
-                ap (λ (p : ℕ). with_spot spots (record { start = start; end = stop; place = p; service = is_service c })) place
+                ap (λ (p : ℕ). with_spot spots (record { start = start; end = stop; place = p })) place
                     ∙ stored_more spots more l (so.fields ls q).3 field_room,
-                λ rest. fields_judged ls q _ (from_found fib start stop n at c next e) rest
+                λ rest. fields_judged ls q _ (from_found fib start stop n at f next e) rest
                     ∙ ap (judge_from fault more) (joined_after l w rest)
                     ∙ judge_after fault more l (joined w rest) so.least
                     ∙ ap (λ (x : Fault). judge_from x (more ++ l ∷ []) (joined w rest)) (sym same),
               );
         }
 
-  -- a linking field more, with its fault
-  module _ (f : Field) where
-    abbrev linked : Carried
-    linked = ofLinking (meaning (body fib start stop) f)
-
-    pub linking_fault : (class : ℕ) → class ≡ class_in f → worse fault (fault_at class (start + at)) ≡ worse fault (fault_of (spotted start stop at linked).field)
-    unfolding wrong_carried empty_carried
-    linking_fault class e = worse_field (spotted start stop at linked).field fault class so.most (e ∙ class_means (body fib start stop) f)
-
-  -- and a field of services, which has none
-  pub service_fault : (g : _) → fault ≡ worse fault (fault_of (spotted start stop at (ofService g)).field)
-  unfolding fault_of wrong_carried empty_carried
-  service_fault g = sym (worse_first fault no_fault so.most)
-
   -- at the end of the body nothing of it is to come
-  pub fields_end : carried_at (fig_in fib start stop) at ≡ end
+  pub fields_end : field_step_at (body fib start stop) at ≡ End
       → Pushes fib start stop (record { fault = fault₀; spots = spots₀ }) (record { fault = fault; spots = spots })
   fields_end e =
       record {
@@ -242,7 +187,7 @@ module _ (fib : List ℕ) (start stop : ℕ) (fault₀ : Fault) (spots₀ : Spot
       }
 
   -- at a field that does not fit the class is 4, whatever comes, and the place this field's, unless one before it did not fit
-  pub fields_wrong : carried_at (fig_in fib start stop) at ≡ wrong
+  pub fields_wrong : field_step_at (body fib start stop) at ≡ Wrong
       → Pushes fib start stop (record { fault = fault₀; spots = spots₀ }) (record { fault = worse fault (fault_at 4 (start + at)); spots = spots })
   fields_wrong e =
       record {
@@ -354,44 +299,23 @@ module _ (fib : List ℕ) (found : Pushed) (at : ℕ) (block : length fib ≡ 32
     unfolding less
     still = omega (arith, so.spare, (fig_spare so.left so.spare).1, lies.holds, lies.begins, lies.goes_on)
 
-    -- the fields of this FIG, of type 0, are those of its body
-    fig_fields : kind ≡ 0 → located_of fig ≡ located_in fib start stop
+    -- the fields of this FIG are those of its body
+    fig_fields : located_of fig ≡ located_in fib start stop
     unfolding located_of fields_of located_in located_from fig
-    fig_fields z =
+    fig_fields =
         let n = body_length fib start stop block lies.within in
         let a : at + 1 ≡ start = sym lies.begins in
         let b : at + 1 + length (body fib start stop) ≡ stop = omega (arith, n, lies.begins, lies.holds) in
-        λ i. map_walk (standing (a i) (b i)) (walk (a i) (carried_at (record { type = z i; body = body fib start stop })) (n i) 1)
+        λ i. map_walk (standing (a i) (b i)) (walk (a i) (field_at (body fib start stop)) (n i) 1)
 
-    -- a FIG of linking and one of services are of type 0, and not both
-    pub linking_type : linking kind (body fib start stop) ≡ true → kind ≡ 0
-    unfolding linking is_linking
-    linking_type l = eqb-true kind 0 (and_left (eqb kind 0) _ l)
+    -- it carries linking, by the rules and by the code
+    fig_linking : is_linking fig.what ≡ linking kind (body fib start stop)
+    unfolding linking fig
+    fig_linking = refl
 
-    pub services_type : says_services kind (body fib start stop) ≡ true → kind ≡ 0
-    unfolding says_services is_services
-    services_type l = eqb-true kind 0 (and_left (eqb kind 0) _ l)
-
-    pub linking_in_law : linking kind (body fib start stop) ≡ true → is_linking (fig_in fib start stop) ≡ true
-    unfolding linking
-    linking_in_law l = subst (λ (k : ℕ). is_linking (record { type = k; body = body fib start stop }) ≡ true) (linking_type l) l
-
-    pub services_in_law : linking kind (body fib start stop) ≡ false → says_services kind (body fib start stop) ≡ true → is_linking (fig_in fib start stop) ≡ false
-    unfolding linking
-    services_in_law l s = subst (λ (k : ℕ). is_linking (record { type = k; body = body fib start stop }) ≡ false) (services_type s) l
-
-    -- it carries fields, by the rules and by the code
-    linking_carries : linking kind (body fib start stop) ≡ true → carries fig.what ≡ true
-    unfolding linking carries fig
-    linking_carries l = or_left (is_linking fig.what) (is_services fig.what) l
-
-    services_carries : says_services kind (body fib start stop) ≡ true → carries fig.what ≡ true
-    unfolding says_services carries fig
-    services_carries s = or_right (is_linking fig.what) (is_services fig.what) s
-
-    -- after a FIG that carries fields
-    figs_more : kind ≡ 0 → carries fig.what ≡ true → (more : Pushed) → Pushes fib start stop found more → FigsSoFar fib more next.at
-    figs_more z l more p =
+    -- after a FIG that carries linking
+    pub figs_next : linking kind (body fib start stop) ≡ true → (more : Pushed) → Pushes fib start stop found more → FigsSoFar fib more next.at
+    figs_next l more p =
         let w = p.fields so.fields so.stored in
         record {
           within = omega (arith, lies.within, lies.goes_on);
@@ -403,20 +327,13 @@ module _ (fib : List ℕ) (found : Pushed) (at : ℕ) (block : length fib ≡ 32
           left = less;
           spare = still;
           same = figs_from _ steps
-              ∙ figs_after found.fault more.fault so.fields w.0 fig (walk 0 (fig_at fib) less next.at) l
-              (λ rest. ap (λ (v : Walk Located). judge_from found.fault so.fields (joined v rest)) (fig_fields z) ∙ w.2 rest);
+              ∙ figs_after found.fault more.fault so.fields w.0 fig (walk 0 (fig_at fib) less next.at) (fig_linking ∙ l)
+              (λ rest. ap (λ (v : Walk Located). judge_from found.fault so.fields (joined v rest)) fig_fields ∙ w.2 rest);
         }
 
-    pub figs_next : linking kind (body fib start stop) ≡ true → (more : Pushed) → Pushes fib start stop found more → FigsSoFar fib more next.at
-    figs_next l = figs_more (linking_type l) (linking_carries l)
-
-    pub figs_services : says_services kind (body fib start stop) ≡ true → (more : Pushed) → Pushes fib start stop found more → FigsSoFar fib more next.at
-    figs_services s = figs_more (services_type s) (services_carries s)
-
     -- after any other
-    pub figs_skip : linking kind (body fib start stop) ≡ false → says_services kind (body fib start stop) ≡ false → FigsSoFar fib found next.at
-    unfolding linking says_services carries fig
-    figs_skip l s =
+    pub figs_skip : linking kind (body fib start stop) ≡ false → FigsSoFar fib found next.at
+    figs_skip l =
         record {
           within = omega (arith, lies.within, lies.goes_on);
           room = omega (arith, so.room, lies.holds, lies.begins, lies.goes_on);
@@ -426,5 +343,5 @@ module _ (fib : List ℕ) (found : Pushed) (at : ℕ) (block : length fib ≡ 32
           stored = so.stored;
           left = less;
           spare = still;
-          same = figs_from _ steps ∙ figs_over found.fault so.fields fig (walk 0 (fig_at fib) less next.at) (or_neither (is_linking fig.what) (is_services fig.what) l s);
+          same = figs_from _ steps ∙ figs_over found.fault so.fields fig (walk 0 (fig_at fib) less next.at) (fig_linking ∙ l);
         }

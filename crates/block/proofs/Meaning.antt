@@ -4,33 +4,26 @@
 use Prim.Native.Nat.{ℕ, zero, suc, ◌+◌, ◌-◌, ◌≤◌, ◌<◌}
 use native.Mathlib.Nat.{le_of_suc-le-suc, not-suc-le-zero}
 use native.Mathlib.Omega.{arith}
-use mathlib.Core.Path.{◌≡◌, refl, sym, ap, ◌∙◌, subst, subst₂}
-use mathlib.Core.Bool.{Bool, true, false, true≢false}
+use mathlib.Core.Path.{◌≡◌, refl, sym, ap, ap₂, ◌∙◌, subst, subst₂}
 use mathlib.Core.List.{List, [], ◌∷◌, map}
 use lib.ListN.{length, get_or, take, drop, length-map}
 use Rattle.rules.specs.declared.Outcome.{Outcome}
 use Rattle.rules.specs.declared.Outcome.TheVariants.{Done, NotABlock}
 use Rattle.rules.specs.Block.{item, Placed, what_of, Walk, whole, Fig, figs}
-use Rattle.rules.specs.Field.{Field as FieldOf, is_linking, field_at}
-use Rattle.rules.specs.Services.{ServiceField as ServiceOf, service_at}
-use Rattle.rules.specs.Outcomes.{number_of, Carried, linking, service, carries, step_as, carried_at, fields_of, Verdict, taken, refused, no_block, verdict}
-use Rattle.rules.proofs.Basics.{cases_bool, Every, every_imp, every_map, cond_both}
-use Rattle.rules.proofs.Taken.{end_item, wrong_item, item-along, step-item, carried_linking, carried_service, FigStands, figs_every, fields_every, taken_block, taken_few}
+use Rattle.rules.specs.Field.{Field as FieldOf, is_linking, field_at, fields_of}
+use Rattle.rules.specs.Outcomes.{number_of, Verdict, taken, refused, no_block, verdict}
+use Rattle.rules.proofs.Basics.{Every, every_imp, every_map, cond_both}
+use Rattle.rules.proofs.Taken.{end_item, wrong_item, item-along, FigStands, figs_every, fields_every, taken_block, taken_few}
 use Rattle.rules.proofs.Arrays.{get_d_padded}
 use Rattle.rules.proofs.LinkageLaws.{Refused, Refusal, full_refusal, refused_full}
 use Rattle.field.specs.declared.FieldStep.{FieldStep}
 use Rattle.field.specs.declared.FieldStep.TheVariants.{Found, End, Wrong}
 use Rattle.field.specs.FieldStep.{field_step_at, meaning, found}
 use Rattle.field.proofs.Laws.{field_step_at_means}
-use Rattle.servicefield.specs.declared.ServiceStep.{ServiceStep}
-use Rattle.servicefield.specs.declared.ServiceStep.TheVariants.{Found as FoundService, End as NoService, Wrong as WrongService}
-use Rattle.servicefield.specs.ServiceStep as Service
-use Rattle.servicefield.specs.ServiceStep.{service_step_at}
-use Rattle.servicefield.proofs.Laws.{service_step_at_means}
 use Rattle.block.specs.declared.Spot.{Spot}
 use Rattle.block.specs.declared.Spots.{Spots}
 use Rattle.block.specs.declared.Judged.{Judged}
-use Rattle.block.specs.Judged.{nothing, field_or, field_in, service_or, service_in, is_service, Located, spot_of, field_of, items_of, standing, located_of, all_located, located, no_spot, no_spots, store_spots, judged_as, judged}
+use Rattle.block.specs.Judged.{nothing, field_or, field_in, Located, spot_of, field_of, items_of, standing, located_of, all_located, located, no_spot, no_spots, store_spots, judged_as, judged}
 use Rattle.block.proofs.Walks.{items_map, items_every, joined_every}
 use Rattle.block.proofs.Verdicts.{located_fields}
 
@@ -38,51 +31,27 @@ use Rattle.block.proofs.Verdicts.{located_fields}
 abbrev pub body_at : List ℕ → Spot → List ℕ
 body_at fib s = take (s.end - s.start) (drop s.start fib)
 
--- a linking field is found at a spot's place of its body, and means that field of the rules there
-pub record SaysLinking (fib : List ℕ) (s : Spot) (g : FieldOf) : Type 0 where
-  pub is : s.service ≡ false
+-- a spot of a block says a field of the rules: its body lies in the block's data, a field is found at its place of that
+-- body, and means that field there
+pub record SpotIs (fib : List ℕ) (s : Spot) (g : FieldOf) : Type 0 where
+  pub ordered : s.start ≤ s.end
+  pub inside : s.end ≤ 30
   pub means : meaning (body_at fib s) (field_in (body_at fib s) s.place) ≡ g
   pub found : (next : ℕ) × (field_step_at (body_at fib s) s.place ≡ Found (field_in (body_at fib s) s.place) next)
 
--- and so is a field of services
-pub record SaysService (fib : List ℕ) (s : Spot) (g : ServiceOf) : Type 0 where
-  pub is : s.service ≡ true
-  pub means : Service.meaning (body_at fib s) (service_in (body_at fib s) s.place) ≡ g
-  pub found : (next : ℕ) × (service_step_at (body_at fib s) s.place ≡ FoundService (service_in (body_at fib s) s.place) next)
-
-abbrev pub Says : List ℕ → Spot → Carried → Type 0
-Says fib s (linking g) = SaysLinking fib s g
-Says fib s (service g) = SaysService fib s g
-
--- a spot of a block says a field of the rules: its body lies in the block's data, and the field is found there
-pub record SpotIs (fib : List ℕ) (s : Spot) (g : Carried) : Type 0 where
-  pub ordered : s.start ≤ s.end
-  pub inside : s.end ≤ 30
-  pub says : Says fib s g
-
--- by its mark it says one of linking, or one of services
-module _ (fib : List ℕ) (s : Spot) where
-  pub says-linking {ℓ} : {C : Type ℓ} (g : Carried) → Says fib s g → s.service ≡ false → ((f : FieldOf) → g ≡ linking f → SaysLinking fib s f → C) → C
-  says-linking (linking f) h e c = c f refl h
-  says-linking (service f) h e c = absurd (true≢false (sym h.is ∙ e))
-
-  pub says-service {ℓ} : {C : Type ℓ} (g : Carried) → Says fib s g → s.service ≡ true → ((f : ServiceOf) → g ≡ service f → SaysService fib s f → C) → C
-  says-service (linking f) h e c = absurd (true≢false (sym e ∙ h.is))
-  says-service (service f) h e c = c f refl h
-
 -- a field of the rules with nothing in it
-abbrev pub no_field : Carried
-no_field = linking (meaning [] nothing)
+abbrev pub no_field : FieldOf
+no_field = meaning [] nothing
 
 -- spots say these fields, in order
-pub record SpotsAre (fib : List ℕ) (spots : Spots) (fs : List Carried) : Type 0 where
+pub record SpotsAre (fib : List ℕ) (spots : Spots) (fs : List FieldOf) : Type 0 where
   pub count : spots.count ≡ length fs
   pub few : length fs ≤ 14
   pub each : (i : ℕ) → i < length fs → SpotIs fib (get_or spots.spots i no_spot) (get_or fs i no_field)
 
 -- an answer says a verdict on a block: done, and all the fields; or the outcome that refuses, with its place, and none
 pub data JudgedAs (fib : List ℕ) (v : Verdict) (r : Judged) : Type 0 where
-  is_taken : (fs : List Carried) → v ≡ taken fs → r.outcome ≡ Done → r.place ≡ 0 → SpotsAre fib r.spots fs → JudgedAs fib v r
+  is_taken : (fs : List FieldOf) → v ≡ taken fs → r.outcome ≡ Done → r.place ≡ 0 → SpotsAre fib r.spots fs → JudgedAs fib v r
   is_refused : (o : Outcome) (p : ℕ) → v ≡ refused o p → r.outcome ≡ o → r.place ≡ p → r.spots.count ≡ 0 → JudgedAs fib v r
   is_no_block : v ≡ no_block → r.outcome ≡ NotABlock → r.place ≡ 0 → r.spots.count ≡ 0 → JudgedAs fib v r
 
@@ -96,58 +65,20 @@ found_item bytes f next (Found g n) e = (item-along (λ (x : FieldOf) (m : ℕ).
 found_item bytes f next End e = end_item f next e
 found_item bytes f next Wrong e = wrong_item f next e
 
-found_service : (bytes : List ℕ) (f : ServiceOf) (next : ℕ) (s : ServiceStep) → Service.found bytes s ≡ item f next
-    → (Service.meaning bytes (service_or s) ≡ f) × ((n : ℕ) × (s ≡ FoundService (service_or s) n))
-unfolding Service.found service_or
-found_service bytes f next (FoundService g n) e =
-    (item-along (λ (x : ServiceOf) (m : ℕ). Service.meaning bytes g ≡ x) (Service.meaning bytes g) f n next e refl, (n, refl))
-found_service bytes f next NoService e = end_item f next e
-found_service bytes f next WrongService e = wrong_item f next e
-
 -- a field that is located is said by its spot, and the spot's place in the block is the field's
 abbrev Stands : List ℕ → Located → Type 0
 Stands fib l = SpotIs fib l.spot l.field.what × (l.spot.start + l.spot.place ≡ l.field.place)
 
--- what is found at a place of a FIG's body is what the spot of that place says
-module _ (fib : List ℕ) (start stop place next : ℕ) where
-  bytes' : List ℕ
-  bytes' = take (stop - start) (drop start fib)
-
-  abbrev spot : Bool → Spot
-  spot b = record { start = start; end = stop; place = place; service = b }
-
-  linking_says : (g : FieldOf) → field_at bytes' place ≡ item g next → SaysLinking fib (spot false) g
-  unfolding field_in bytes'
-  linking_says g e =
-      let w = found_item bytes' g next (field_step_at bytes' place) (field_step_at_means bytes' place ∙ e) in
-      record { is = refl; means = w.0; found = w.1 }
-
-  service_says : (g : ServiceOf) → service_at bytes' place ≡ item g next → SaysService fib (spot true) g
-  unfolding service_in bytes'
-  service_says g e =
-      let w = found_service bytes' g next (service_step_at bytes' place) (service_step_at_means bytes' place ∙ e) in
-      record { is = refl; means = w.0; found = w.1 }
-
-  carried_says : (fig : Fig) → fig.body ≡ bytes' → (g : Carried) → carried_at fig place ≡ item g next → Says fib (spot (is_service g)) g
-  carried_says fig b g e =
-      cases_bool (is_linking fig)
-      (λ l. step-item linking (field_at fig.body place) g next (sym (carried_linking fig place l) ∙ e) (λ f i h.
-      subst (λ (x : Carried). Says fib (spot (is_service x)) x) h (unfold is_service in linking_says f (ap (λ (x : List ℕ). field_at x place) (sym b) ∙ i))))
-      (λ l. step-item service (service_at fig.body place) g next (sym (carried_service fig place l) ∙ e) (λ f i h.
-      subst (λ (x : Carried). Says fib (spot (is_service x)) x) h (unfold is_service in service_says f (ap (λ (x : List ℕ). service_at x place) (sym b) ∙ i))))
-
-stands_at_law : (fib : List ℕ) (fig : Fig) (start stop : ℕ) → start ≤ stop → stop ≤ 30 → fig.body ≡ take (stop - start) (drop start fib)
-    → (place : ℕ) (f : Placed Carried) (next : ℕ) → carried_at fig place ≡ item f.what next → f.place ≡ start + place
+stands_at_law : (fib bytes : List ℕ) (start stop : ℕ) → start ≤ stop → stop ≤ 30 → bytes ≡ take (stop - start) (drop start fib)
+    → (place : ℕ) (f : Placed FieldOf) (next : ℕ) → field_at bytes place ≡ item f.what next → f.place ≡ start + place
     → Stands fib (standing start stop f)
-stands_at_law fib fig start stop ordered inside part place f next e at =
-    let p : f.place - start ≡ place = omega arith in (
-      record {
-        ordered = ordered;
-        inside = inside;
-        says = carried_says fib start stop (f.place - start) next fig (unfold bytes' in part) f.what (ap (carried_at fig) p ∙ e);
-      },
-      omega arith,
-    )
+unfolding field_in
+stands_at_law fib bytes start stop ordered inside part place f next e at =
+    let bytes' = take (stop - start) (drop start fib) in
+    let p : f.place - start ≡ place = omega arith in
+    let there = field_step_at_means bytes' (f.place - start) ∙ ap₂ field_at (sym part) p ∙ e in
+    let w = found_item bytes' f.what next (field_step_at bytes' (f.place - start)) there in
+    (record { ordered = ordered; inside = inside; means = w.0; found = w.1 }, omega arith)
 
 -- ---- the fields of a block
 
@@ -162,14 +93,14 @@ fig_stands fib fig q s =
     (every_map (Stands fib) (standing start stop) (items_of (fields_of fig))
     (items_every (λ f. Stands fib (standing start stop f)) (fields_of fig)
     (fields_every (λ f. Stands fib (standing start stop f)) fig
-    (stands_at_law fib fig.what start stop (omega arith) (omega (arith, s.ends, s.inside)) part))))
+    (stands_at_law fib fig.what.body start stop (omega arith) (omega (arith, s.ends, s.inside)) part))))
 
 all_stand : (fib : List ℕ) (gs : List (Placed Fig)) → Every (λ fig. Every (Stands fib) (items_of (located_of fig))) gs
     → Every (Stands fib) (items_of (all_located gs))
 unfolding all_located items_of
 all_stand fib [] e = tt
 all_stand fib (fig ∷ gs) e =
-    cond_both (λ (w : Walk Located). Every (Stands fib) (items_of w)) (carries fig.what) _ _
+    cond_both (λ (w : Walk Located). Every (Stands fib) (items_of w)) (is_linking fig.what) _ _
     (joined_every (Stands fib) (located_of fig) (all_located gs) e.0 (all_stand fib gs e.1))
     (all_stand fib gs e.1)
 
@@ -180,7 +111,7 @@ located_stands fib gs l w =
     (all_stand fib gs (figs_every (λ fig. Every (Stands fib) (items_of (located_of fig))) fib (fig_stands fib) gs l w))
 
 -- the place of a field in the block, as its spot says it, is its place by the rules
-pub located_places : (fib : List ℕ) (fs : List Carried) → verdict fib ≡ taken fs
+pub located_places : (fib : List ℕ) (fs : List FieldOf) → verdict fib ≡ taken fs
     → Every (λ l. l.spot.start + l.spot.place ≡ l.field.place) (located fib)
 located_places fib fs v =
     let b = taken_block fib fs v in
@@ -195,7 +126,7 @@ each_stands fib (l ∷ ls) e zero h = e.0.0
 each_stands fib (l ∷ ls) e (suc i) h = each_stands fib ls e.1 i (le_of_suc-le-suc h)
 
 -- the spots of a taken block say its fields
-spots_are : (fib : List ℕ) (fs : List Carried) → verdict fib ≡ taken fs → SpotsAre fib (store_spots (map spot_of (located fib))) fs
+spots_are : (fib : List ℕ) (fs : List FieldOf) → verdict fib ≡ taken fs → SpotsAre fib (store_spots (map spot_of (located fib))) fs
 unfolding store_spots
 spots_are fib fs v =
     let b = taken_block fib fs v in
@@ -207,9 +138,9 @@ spots_are fib fs v =
       count = spots;
       few = taken_few fib fs v;
       each = λ i h.
-          subst₂ (λ (x : Spot) (y : Carried). SpotIs fib x y)
+          subst₂ (λ (x : Spot) (y : FieldOf). SpotIs fib x y)
           (sym (get_d_padded 14 no_spot no_spot (map spot_of ls) i (omega arith)))
-          (ap (λ (gs : List Carried). get_or gs i no_field) all)
+          (ap (λ (gs : List FieldOf). get_or gs i no_field) all)
           (each_stands fib ls (located_stands fib b.parts b.size b.walked) i (omega arith));
     }
 
@@ -231,7 +162,7 @@ says fib e = subst (JudgedAs fib (verdict fib)) (sym e) (judged_says fib)
 
 pub data JudgeAnswer (fib : List ℕ) (r : Judged) : Type 0 where
   -- 0, with one spot a field
-  done : (fs : List Carried) → verdict fib ≡ taken fs → number_of r.outcome ≡ 0 → r.place ≡ 0 → r.spots.count ≡ length fs → JudgeAnswer fib r
+  done : (fs : List FieldOf) → verdict fib ≡ taken fs → number_of r.outcome ≡ 0 → r.place ≡ 0 → r.spots.count ≡ length fs → JudgeAnswer fib r
   -- 1
   not_aBlock : (length fib ≡ 32 → ⊥) → number_of r.outcome ≡ 1 → r.place ≡ 0 → r.spots ≡ no_spots → JudgeAnswer fib r
   -- 2 to 6, each for its reason, at its place

@@ -10,7 +10,8 @@ use lib.Dec.{ltb}
 use borrow.Author.Tests.{ltb-true, ltb-false, lt-ltb, le-ltb, eq-eqb}
 use Rattle.rules.specs.declared.Outcome.TheVariants.{WrongFig, WrongField, WrongValue, EmptyStart}
 use Rattle.rules.specs.Block.{Placed, what_of, Walk, whole, broken, after, Fig, figs}
-use Rattle.rules.specs.Outcomes.{Carried, carries, fields_of, taken, refused, joined, all_fields, some?, first_place, wrong_carried, empty_carried, judge_fields, judge_figs}
+use Rattle.rules.specs.Field.{Field as FieldOf, is_linking, fields_of, wrong_value, empty_start}
+use Rattle.rules.specs.Outcomes.{taken, refused, joined, all_fields, some?, first_place, judge_fields, judge_figs}
 use Rattle.rules.proofs.Basics.{cond_both, cases_bool}
 use Rattle.block.specs.declared.Fault.{Fault}
 use Rattle.block.specs.declared.Judged.{Judged}
@@ -49,28 +50,28 @@ worse_assoc a b c =
     (λ e. let h = ltb-false c.class b.class e in
     ap (worse a) (worse_first b c h) ∙ sym (worse_first (worse a b) c (omega (arith, worse_class a b))))
 
-module _ (f : Placed Carried) where
+module _ (f : Placed FieldOf) where
   pub fault_of_range : (5 ≤ (fault_of f).class) × ((fault_of f).class ≤ 7)
   unfolding fault_of
   fault_of_range =
-      cond_both (λ (x : Fault). (5 ≤ x.class) × (x.class ≤ 7)) (wrong_carried f.what) _ _ (omega arith)
-      (cond_both (λ (x : Fault). (5 ≤ x.class) × (x.class ≤ 7)) (empty_carried f.what) _ _ (omega arith) (omega arith))
+      cond_both (λ (x : Fault). (5 ≤ x.class) × (x.class ≤ 7)) (wrong_value f.what) _ _ (omega arith)
+      (cond_both (λ (x : Fault). (5 ≤ x.class) × (x.class ≤ 7)) (empty_start f.what) _ _ (omega arith) (omega arith))
 
   -- the fault of a field by its class alone: a field with none counts for nothing
-  pub worse_field : (a : Fault) (class : ℕ) → a.class ≤ 7 → class ≡ cond (wrong_carried f.what) 5 (cond (empty_carried f.what) 6 7)
+  pub worse_field : (a : Fault) (class : ℕ) → a.class ≤ 7 → class ≡ cond (wrong_value f.what) 5 (cond (empty_start f.what) 6 7)
       → worse a (fault_at class f.place) ≡ worse a (fault_of f)
   unfolding fault_of
   worse_field a class h e =
       ap (λ (k : ℕ). worse a (fault_at k f.place)) e
-      ∙ cases_bool (wrong_carried f.what)
+      ∙ cases_bool (wrong_value f.what)
       (λ v. rw v)
-      (λ v. rw v (cases_bool (empty_carried f.what) (λ s. rw s) (λ s. rw s (worse_first a (fault_at 7 f.place) h ∙ sym (worse_first a no_fault h)))))
+      (λ v. rw v (cases_bool (empty_start f.what) (λ s. rw s) (λ s. rw s (worse_first a (fault_at 7 f.place) h ∙ sym (worse_first a no_fault h)))))
 
-faults_of_range : (fs : List (Placed Carried)) → (5 ≤ (faults_of fs).class) × ((faults_of fs).class ≤ 7)
+faults_of_range : (fs : List (Placed FieldOf)) → (5 ≤ (faults_of fs).class) × ((faults_of fs).class ≤ 7)
 unfolding faults_of
 faults_of_range fs =
-    cond_both (λ (x : Fault). (5 ≤ x.class) × (x.class ≤ 7)) (some? wrong_carried fs) _ _ (omega arith)
-    (cond_both (λ (x : Fault). (5 ≤ x.class) × (x.class ≤ 7)) (some? empty_carried fs) _ _ (omega arith) (omega arith))
+    cond_both (λ (x : Fault). (5 ≤ x.class) × (x.class ≤ 7)) (some? wrong_value fs) _ _ (omega arith)
+    (cond_both (λ (x : Fault). (5 ≤ x.class) × (x.class ≤ 7)) (some? empty_start fs) _ _ (omega arith) (omega arith))
 
 -- the first fault of the smallest class, by the tests of the first field (a, b) and of the others (c, d)
 first_of : (a b c d : Bool) (p q r : ℕ)
@@ -87,10 +88,10 @@ first_of false false true d p q r = refl
 first_of false false false true p q r = refl
 first_of false false false false p q r = refl
 
-faults_more : (f : Placed Carried) (fs : List (Placed Carried)) → worse (fault_of f) (faults_of fs) ≡ faults_of (f ∷ fs)
+faults_more : (f : Placed FieldOf) (fs : List (Placed FieldOf)) → worse (fault_of f) (faults_of fs) ≡ faults_of (f ∷ fs)
 unfolding fault_of faults_of some? first_place
 faults_more f fs =
-    first_of (wrong_carried f.what) (empty_carried f.what) (some? wrong_carried fs) (some? empty_carried fs) f.place (first_place wrong_carried fs) (first_place empty_carried fs)
+    first_of (wrong_value f.what) (empty_start f.what) (some? wrong_value fs) (some? empty_start fs) f.place (first_place wrong_value fs) (first_place empty_start fs)
 
 -- a fault of class 4 says it all
 answer_four : (fault : Fault) (ls more : List Located) → fault.class ≡ 4 → answer_of fault ls ≡ answer_of fault more
@@ -151,7 +152,7 @@ judge_first : (w : Walk Located) → judge_from no_fault [] w ≡ judged_as (jud
 unfolding judge_from judge_fields map_walk items_of judged_as faults_of answer_of worse
 judge_first (whole ls) =
     let fs = map field_of ls in
-    answer_tested (some? wrong_carried fs) (some? empty_carried fs) (first_place wrong_carried fs) (first_place empty_carried fs) ls
+    answer_tested (some? wrong_value fs) (some? empty_start fs) (first_place wrong_value fs) (first_place empty_start fs) ls
 judge_first (broken p) = refl
 
 -- ---- the fields with where they stand are those of the rules
@@ -164,12 +165,12 @@ all_located_law : (gs : List (Placed Fig)) → map_walk field_of (all_located gs
 unfolding all_located all_fields map_walk
 all_located_law [] = refl
 all_located_law (fig ∷ gs) =
-    cases_bool (carries fig.what)
+    cases_bool (is_linking fig.what)
     (λ e. rw e (map_joined field_of (located_of fig) (all_located gs) ∙ ap₂ joined (fields_located fig) (all_located_law gs)))
     (λ e. rw e (all_located_law gs))
 
 -- of a block that is taken
-pub located_fields : (fib : List ℕ) (gs : List (Placed Fig)) (fs : List (Placed Carried)) → figs fib ≡ whole gs → all_fields gs ≡ whole fs
+pub located_fields : (fib : List ℕ) (gs : List (Placed Fig)) (fs : List (Placed FieldOf)) → figs fib ≡ whole gs → all_fields gs ≡ whole fs
     → map field_of (located fib) ≡ fs
 unfolding located items_of
 located_fields fib gs fs w f =
@@ -186,7 +187,7 @@ judge_figs_from fault ls (broken p) = judged_as (refused WrongFig p) []
 figs_judged : (w : Walk (Placed Fig)) → judged_as (judge_figs w) (items_of (all_located (items_of w))) ≡ judge_figs_from no_fault [] w
 unfolding judge_figs judge_figs_from items_of judged_as
 figs_judged (whole gs) =
-    ap (λ (x : Walk (Placed Carried)). judged_as (judge_fields x) (items_of (all_located gs))) (sym (all_located_law gs)) ∙ sym (judge_first (all_located gs))
+    ap (λ (x : Walk (Placed FieldOf)). judged_as (judge_fields x) (items_of (all_located gs))) (sym (all_located_law gs)) ∙ sym (judge_first (all_located gs))
 figs_judged (broken p) = refl
 
 pub figs_first : (fib : List ℕ) → judged_as (judge_figs (figs fib)) (located fib) ≡ judge_figs_from no_fault [] (figs fib)
@@ -194,15 +195,15 @@ unfolding located
 figs_first fib = figs_judged (figs fib)
 
 -- one FIG more: what its fields leave
-pub figs_after : (fault less : Fault) (ls more : List Located) (fig : Placed Fig) (w : Walk (Placed Fig)) → carries fig.what ≡ true
+pub figs_after : (fault less : Fault) (ls more : List Located) (fig : Placed Fig) (w : Walk (Placed Fig)) → is_linking fig.what ≡ true
     → ((rest : Walk Located) → judge_from fault ls (joined (located_of fig) rest) ≡ judge_from less more rest)
     → judge_figs_from fault ls (after fig w) ≡ judge_figs_from less more w
 unfolding judge_figs_from after all_located
 figs_after fault less ls more fig (whole gs) l h = rw l (h (all_located gs))
 figs_after fault less ls more fig (broken p) l h = refl
 
--- or nothing, where it carries none
-pub figs_over : (fault : Fault) (ls : List Located) (fig : Placed Fig) (w : Walk (Placed Fig)) → carries fig.what ≡ false
+-- or nothing, where it carries no linking
+pub figs_over : (fault : Fault) (ls : List Located) (fig : Placed Fig) (w : Walk (Placed Fig)) → is_linking fig.what ≡ false
     → judge_figs_from fault ls (after fig w) ≡ judge_figs_from fault ls w
 unfolding judge_figs_from after all_located
 figs_over fault ls fig (whole gs) l = rw l

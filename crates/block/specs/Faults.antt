@@ -2,8 +2,9 @@
 -- the answer to the whole follows from those and from what is still to come.
 use Rattle.std.specs.Prelude.{ℕ, ◌+◌, ◌-◌, ◌*◌, ◌≤◌, ◌<◌, ◌≡◌, cond, List, [], ◌∷◌, ◌++◌, map, length, take, drop, ltb, eqb}
 use Rattle.rules.specs.declared.Outcome.TheVariants.{WrongField, WrongValue, EmptyStart}
-use Rattle.rules.specs.Block.{Placed, what_of, Walk, whole, broken, walk, Fig, figs}
-use Rattle.rules.specs.Outcomes.{Carried, carried_at, taken, refused, joined, some?, first_place, wrong_carried, empty_carried, judge_figs}
+use Rattle.rules.specs.Block.{Placed, what_of, Walk, whole, broken, walk, figs}
+use Rattle.rules.specs.Field.{Field as FieldOf, field_at, wrong_value, empty_start}
+use Rattle.rules.specs.Outcomes.{taken, refused, joined, some?, first_place, judge_figs}
 use Rattle.field.specs.declared.Field.{Field}
 use Rattle.field.specs.FieldStep.{wrong_in, empty_in}
 use Rattle.block.specs.declared.Fault.{Fault}
@@ -27,13 +28,13 @@ abbrev pub no_fault : Fault
 no_fault = fault_at 7 0
 
 -- the fault of a field of the rules
-unfoldable pub fault_of : Placed Carried → Fault
-fault_of f = cond (wrong_carried f.what) (fault_at 5 f.place) (cond (empty_carried f.what) (fault_at 6 f.place) no_fault)
+unfoldable pub fault_of : Placed FieldOf → Fault
+fault_of f = cond (wrong_value f.what) (fault_at 5 f.place) (cond (empty_start f.what) (fault_at 6 f.place) no_fault)
 
 -- the first fault of the smallest class of these fields
-unfoldable pub faults_of : List (Placed Carried) → Fault
+unfoldable pub faults_of : List (Placed FieldOf) → Fault
 faults_of fs =
-    cond (some? wrong_carried fs) (fault_at 5 (first_place wrong_carried fs)) (cond (some? empty_carried fs) (fault_at 6 (first_place empty_carried fs)) no_fault)
+    cond (some? wrong_value fs) (fault_at 5 (first_place wrong_value fs)) (cond (some? empty_start fs) (fault_at 6 (first_place empty_start fs)) no_fault)
 
 -- the answer by that fault: 4 a field that does not fit, 5, 6, each at its place, or where the fields stand
 unfoldable pub answer_of : Fault → List Located → Judged
@@ -50,13 +51,9 @@ unfoldable pub judge_from : Fault → List Located → Walk Located → Judged
 judge_from fault ls (whole more) = answer_of (worse fault (faults_of (map field_of more))) (ls ++ more)
 judge_from fault ls (broken p) = answer_of (worse fault (fault_at 4 p)) ls
 
--- a FIG of type 0 with the body fib[start..stop]
-abbrev pub fig_in : List ℕ → ℕ → ℕ → Fig
-fig_in fib start stop = record { type = 0; body = take (stop - start) (drop start fib) }
-
--- the fields of its body from a place of it on, in at most n steps
+-- the fields of a body fib[start..stop] from a place of it on, in at most n steps
 unfoldable pub located_from : List ℕ → ℕ → ℕ → ℕ → ℕ → Walk Located
-located_from fib start stop n place = map_walk (standing start stop) (walk start (carried_at (fig_in fib start stop)) n place)
+located_from fib start stop n place = map_walk (standing start stop) (walk start (field_at (take (stop - start) (drop start fib))) n place)
 
 -- all of them
 unfoldable pub located_in : List ℕ → ℕ → ℕ → Walk Located

@@ -1,18 +1,15 @@
 -- What judging a block answers: where the fields of a taken block stand in it, in order, or the outcome that refuses it, with
 -- its place; and what is read again at a spot.
-use Rattle.std.specs.Prelude.{ℕ, ◌+◌, ◌-◌, Bool, true, false, cond, List, [], ◌∷◌, map, length, replicate}
+use Rattle.std.specs.Prelude.{ℕ, ◌+◌, ◌-◌, cond, List, [], ◌∷◌, map, length, replicate}
 use Rattle.rules.specs.declared.Outcome.TheVariants.{Done, NotABlock}
 use Rattle.rules.specs.Arrays.{padded}
 use Rattle.rules.specs.Block.{Placed, Walk, whole, broken, Fig, figs}
-use Rattle.rules.specs.Outcomes.{Carried, linking, service, carries, fields_of, Verdict, taken, refused, no_block, joined, verdict}
+use Rattle.rules.specs.Field.{Field as FieldOf, is_linking, fields_of}
+use Rattle.rules.specs.Outcomes.{Verdict, taken, refused, no_block, joined, verdict}
 use Rattle.field.specs.declared.Field.{Field}
 use Rattle.field.specs.declared.FieldStep.{FieldStep}
 use Rattle.field.specs.declared.FieldStep.TheVariants.{Found, End, Wrong}
 use Rattle.field.specs.FieldStep.{field_step_at}
-use Rattle.servicefield.specs.declared.ServiceField.{ServiceField}
-use Rattle.servicefield.specs.declared.ServiceStep.{ServiceStep}
-use Rattle.servicefield.specs.declared.ServiceStep.TheVariants.{Found as FoundService, End as NoService, Wrong as WrongService}
-use Rattle.servicefield.specs.ServiceStep.{service_step_at}
 use Rattle.block.specs.declared.Spot.{Spot}
 use Rattle.block.specs.declared.Spots.{Spots}
 use Rattle.block.specs.declared.Judged.{Judged}
@@ -46,30 +43,18 @@ field_or Wrong = nothing
 unfoldable pub field_in : List ℕ → ℕ → Field
 field_in body place = field_or (field_step_at body place)
 
--- the same of a field of services (document 02, R-4)
-abbrev pub no_service : ServiceField
-no_service = record { cn = 0; oe = 0; pd = 0; service = 0; count = 0; from = 0 }
-
-unfoldable pub service_or : ServiceStep → ServiceField
-service_or (FoundService f next) = f
-service_or NoService = no_service
-service_or WrongService = no_service
-
-unfoldable pub service_in : List ℕ → ℕ → ServiceField
-service_in body place = service_or (service_step_at body place)
-
 -- ---- the fields of a block, with where they stand
 
 -- a field of the rules at its place in the block, and the spot that says it
 pub record Located : Type 0 where
   pub spot : Spot
-  pub field : Placed Carried
+  pub field : Placed FieldOf
 
 -- the one and the other
 abbrev pub spot_of : Located → Spot
 spot_of l = l.spot
 
-abbrev pub field_of : Located → Placed Carried
+abbrev pub field_of : Located → Placed FieldOf
 field_of l = l.field
 
 -- a walk with every item made into another
@@ -82,23 +67,18 @@ unfoldable pub items_of : {A : Type 0} → Walk A → List A
 items_of (whole xs) = xs
 items_of (broken p) = []
 
--- a field is one of services
-unfoldable pub is_service : Carried → Bool
-is_service (linking f) = false
-is_service (service f) = true
-
 -- a field of a FIG with the body fib[start..stop]: its place in that body is counted from start
-abbrev pub standing : ℕ → ℕ → Placed Carried → Located
-standing start stop f = record { spot = record { start = start; end = stop; place = f.place - start; service = is_service f.what }; field = f }
+abbrev pub standing : ℕ → ℕ → Placed FieldOf → Located
+standing start stop f = record { spot = record { start = start; end = stop; place = f.place - start }; field = f }
 
--- the fields of a FIG that carries some
+-- the fields of a linking FIG
 unfoldable pub located_of : Placed Fig → Walk Located
 located_of fig = map_walk (standing (fig.place + 1) (fig.place + 1 + length fig.what.body)) (fields_of fig)
 
--- the fields of all those FIGs, in order
+-- the fields of all linking FIGs, in order
 unfoldable pub all_located : List (Placed Fig) → Walk Located
 all_located [] = whole []
-all_located (fig ∷ rest) = cond (carries fig.what) (joined (located_of fig) (all_located rest)) (all_located rest)
+all_located (fig ∷ rest) = cond (is_linking fig.what) (joined (located_of fig) (all_located rest)) (all_located rest)
 
 -- the fields of a block, in order
 unfoldable pub located : List ℕ → List Located
@@ -108,7 +88,7 @@ located fib = items_of (all_located (items_of (figs fib)))
 
 -- a spot with nothing in it, and spots of no field
 abbrev pub no_spot : Spot
-no_spot = record { start = 0; end = 0; place = 0; service = false }
+no_spot = record { start = 0; end = 0; place = 0 }
 
 unfoldable pub no_spots : Spots
 no_spots = record { spots = replicate 14 no_spot; count = 0 }

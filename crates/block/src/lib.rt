@@ -2,24 +2,21 @@
 // that order, each over the whole block before the next, at the place of the first fault of the class answered. One pass over the
 // block finds all of it: the order of 4, 5 and 6 is kept by a fault whose class only falls, from 7, no fault, to the smallest that any
 // field has, and whose place is that of the first field of that class.
-ghost use Rattle.std.specs.Prelude.{◌≡◌, length, true, false};
-ghost use Rattle.rules.specs.Field.{is_linking};
-ghost use Rattle.block.specs.Judged.{nothing, field_in, no_service, service_in, no_spots, judged};
-ghost use Rattle.block.specs.Faults.{class_in, worse, fig_in, JudgesFigs, Concludes, CanPush, Pushes};
+ghost use Rattle.std.specs.Prelude.{◌≡◌, length};
+ghost use Rattle.block.specs.Judged.{nothing, field_in, no_spots, judged};
+ghost use Rattle.block.specs.Faults.{class_in, worse, JudgesFigs, Concludes, CanPush, Pushes};
 
 use field::{Field, FieldStep};
 use figs::{Cursor, FigStep};
 use rules::Outcome;
-use servicefield::{ServiceField, ServiceStep};
 
-// Where a field of a taken block stands: its FIG's body fib[start..end], its place in that body, and whether it is one of services
-// in other ensembles. Four bytes, which are copied with the block's verdict; the field itself is read again there.
+// Where a field of a taken block stands: its FIG's body fib[start..end], and its place in that body. Three bytes, which are
+// copied with the block's verdict; the field itself is read again there.
 #[derive(Drop)]
 pub struct Spot {
     pub start: u8,
     pub end: u8,
     pub place: u8,
-    pub service: bool,
 }
 
 // The fields of a block, in order: the first count places, with nothing in the others. A block has 14 at most.
@@ -62,7 +59,6 @@ pub fn no_spots() -> Spots
             start: 0,
             end: 0,
             place: 0,
-            service: false,
         }; 14],
         count: 0,
     }
@@ -89,22 +85,8 @@ fn no_field() -> Field
     }
 }
 
-// The same of services.
-fn no_service() -> ServiceField
-    ensures { result ≡ no_service }
-{
-    ServiceField {
-        cn: 0,
-        oe: 0,
-        pd: 0,
-        service: 0,
-        count: 0,
-        from: 0,
-    }
-}
-
 impl Spot {
-    // The linking field that stands at a spot of its FIG's body; one with nothing in it where none does.
+    // The field that stands at a spot of its FIG's body; one with nothing in it where none does.
     pub fn field(self, body: &[u8]) -> Field
         ensures { result ≡ field_in body.now self.place }
     {
@@ -112,17 +94,6 @@ impl Spot {
             FieldStep::Found(f, _) => f,
             FieldStep::End => no_field(),
             FieldStep::Wrong => no_field(),
-        }
-    }
-
-    // The same of a field of services.
-    pub fn service_field(self, body: &[u8]) -> ServiceField
-        ensures { result ≡ service_in body.now self.place }
-    {
-        match servicefield::service_at(body, self.place as usize) {
-            ServiceStep::Found(f, _) => f,
-            ServiceStep::End => no_service(),
-            ServiceStep::Wrong => no_service(),
         }
     }
 }
@@ -162,9 +133,9 @@ fn worse_of(fault: Fault, class: u8, place: usize) -> Fault
     }
 }
 
-// With the fields of a linking FIG's body fib[start..end] besides.
+// With the fields of a FIG's body fib[start..end] besides.
 fn push_fields(fib: &[u8], start: usize, end: usize, before: Pushed) -> Pushed
-    requires { CanPush fib.now start end before × (is_linking (fig_in fib.now start end) ≡ true) }
+    requires { CanPush fib.now start end before }
     ensures { Pushes fib.now start end before result }
 {
     let body = &fib[start..end];
@@ -188,41 +159,6 @@ fn push_fields(fib: &[u8], start: usize, end: usize, before: Pushed) -> Pushed
                     start: start as u8,
                     end: end as u8,
                     place: at as u8,
-                    service: false,
-                };
-                spots.count = n + 1;
-                at = next;
-            }
-        }
-    }
-}
-
-// With the fields of services in the body fib[start..end] of another FIG besides: they have no fault but that one does not fit.
-fn push_services(fib: &[u8], start: usize, end: usize, before: Pushed) -> Pushed
-    requires { CanPush fib.now start end before × (is_linking (fig_in fib.now start end) ≡ false) }
-    ensures { Pushes fib.now start end before result }
-{
-    let body = &fib[start..end];
-    let fault = before.fault;
-    let mut spots = before.spots;
-    let mut at = 1;
-    loop {
-        let step = servicefield::service_at(body, at);
-        match step {
-            ServiceStep::End => return Pushed { fault, spots },
-            ServiceStep::Wrong => {
-                return Pushed {
-                    fault: worse_of(fault, 4, start + at),
-                    spots,
-                };
-            }
-            ServiceStep::Found(_, next) => {
-                let n = spots.count;
-                spots.spots[n] = Spot {
-                    start: start as u8,
-                    end: end as u8,
-                    place: at as u8,
-                    service: true,
                 };
                 spots.count = n + 1;
                 at = next;
@@ -277,8 +213,6 @@ fn judge_figs(fib: &[u8]) -> Judged
             } => {
                 if field::is_linking(kind, &fib[start..end]) {
                     found = push_fields(fib, start, end, found);
-                } else if servicefield::is_services(kind, &fib[start..end]) {
-                    found = push_services(fib, start, end, found);
                 }
                 cursor = next;
             }

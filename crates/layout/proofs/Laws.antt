@@ -20,7 +20,7 @@ use Rattle.rules.specs.Field.{Pair}
 use Rattle.rules.specs.Collecting.{IdSet, Entries, Content, just_sets, Shown, is_key, key_width, pairs_meet, if_there, number_meets, entry_meets, ascends, entries_meet, sets_meet, meets, showing, shown_sets}
 use Rattle.layout.specs.Sheet.{groups, sheet_number, sheet_pairs, sheet_set, sheet_sets, sheet, alone, just_shown, Load, accepted, not_aSheet}
 use Rattle.rules.proofs.Basics.{same_head, same_tail, cases_bool, and_left, and_right, and_both, bit_small}
-use Rattle.rules.proofs.TableRules.{kind_small, names_small, width_most, within_width, pair_rules, SetRules, set_rules, entry_rules, KeyMeets, key_meets_law, table_rules, NumbersWithin, content_meets, services_nil, nothing_meets, sets_meet_law, shown_few}
+use Rattle.rules.proofs.TableRules.{kind_small, names_small, width_most, within_width, pair_rules, SetRules, set_rules, entry_rules, KeyMeets, key_meets_law, table_rules, NumbersWithin, content_meets, nothing_meets, sets_meet_law, shown_few}
 
 -- ---- numbers
 
@@ -213,7 +213,7 @@ shown_entries (e ∷ es) h =
 
 -- sets alone have no numbers, so that they meet the rules in a table of no blocks
 pub alone_meet : (ss : List Shown) → sets_meet (map alone ss) ≡ true → meets (just_sets (map alone ss)) ≡ true
-alone_meet ss h = (content_meets (just_sets (map alone ss))).1 (record { sets = h; within = zeros ss; most = omega arith; services = services_nil })
+alone_meet ss h = (content_meets (just_sets (map alone ss))).1 (record { sets = h; within = zeros ss; most = omega arith })
   where
     zeros : (us : List Shown) → NumbersWithin 0 (map alone us)
     zeros [] = tt

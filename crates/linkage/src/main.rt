@@ -56,22 +56,13 @@ fn show_form(options: Options) -> Output {
     Output::Lines
 }
 
-// The form in which the services of a recording are: in lines, or as blocks for air.
-fn service_form(options: Options) -> Output {
-    if options.air {
-        return Output::ServiceBlocks;
-    }
-    Output::Services
-}
-
-// What an action makes: `list`, `show` and `services` make what the options say.
+// What an action makes: `list` and `show` make what the options say.
 fn asked_for(action: Action, options: Options) -> Output {
     match action {
         Action::Sheet => Output::Sheet,
         Action::Air => Output::Blocks,
         Action::Totals => Output::Totals,
         Action::Show => show_form(options),
-        Action::Services => service_form(options),
         _ => list_form(options),
     }
 }
@@ -103,17 +94,15 @@ fn reads_recording(action: Action) -> bool {
         Action::Figs => true,
         Action::Check => true,
         Action::Totals => true,
-        Action::Services => true,
         _ => false,
     }
 }
 
-// Whether an action wants a file to write into: services do where they are written for air.
-fn wants_output(action: Action, options: Options) -> bool {
+// Whether an action wants a file to write into.
+fn wants_output(action: Action) -> bool {
     match action {
         Action::Sheet => true,
         Action::Air => true,
-        Action::Services => options.air,
         _ => false,
     }
 }
@@ -187,20 +176,8 @@ fn lists_recording(action: Action) -> bool {
     }
 }
 
-// Whether an action is about services.
-fn tells_services(action: Action) -> bool {
-    match action {
-        Action::Services => true,
-        _ => false,
-    }
-}
-
 // Whether the forms that are asked for go with the action; it says what does not.
 fn forms_fit(action: Action, options: Options) -> bool {
-    if !tells_services(action) && options.air {
-        say(b"--air goes with services", b"", b"");
-        return false;
-    }
     if !lists_sets(action) && options.table {
         say(b"--table goes with list and show", b"", b"");
         return false;
@@ -218,21 +195,16 @@ fn forms_fit(action: Action, options: Options) -> bool {
 
 // Whether the options go with the action; it says what does not.
 fn go_together(action: Action, options: Options, word: &[u8]) -> bool {
-    let output = wants_output(action, options);
-    if output && options.output == 0 {
-        if tells_services(action) {
-            say(b"services --air wants -o FILE", b"", b"");
-        } else {
-            say(b"", word, b" wants -o FILE");
-        }
+    if wants_output(action) && options.output == 0 {
+        say(b"", word, b" wants -o FILE");
         return false;
     }
-    if !output && options.output != 0 {
-        say(b"-o goes with sheet, air and services --air", b"", b"");
+    if !wants_output(action) && options.output != 0 {
+        say(b"-o goes with sheet and air", b"", b"");
         return false;
     }
-    if !output && options.force {
-        say(b"-f goes with sheet, air and services --air", b"", b"");
+    if !wants_output(action) && options.force {
+        say(b"-f goes with sheet and air", b"", b"");
         return false;
     }
     forms_fit(action, options)

@@ -45,9 +45,6 @@ linkage air [SHEET] -o BLOCKS [-f]           a sheet as blocks for air
 linkage figs [RECORDING]                     types and lengths of the FIGs of each block, and where a check fails
 linkage check [RECORDING]                    which blocks are refused, why, and at which byte
 linkage totals [RECORDING]                   how many sets are shown, how many of them are on, how many identifiers they have
-linkage services [RECORDING]                 in which ensembles the services of a recording are found, from FIG 0/24
-linkage services [RECORDING] --air -o BLOCKS [-f]
-                                             those services as blocks for air
 linkage help | --version                     this text; the version
 
 A file that is left out, or '-', is standard input; '-o -' is standard output. -f overwrites an existing file.

@@ -13,7 +13,6 @@ pub(crate) enum Action {
     Figs,
     Check,
     Totals,
-    Services,
     Help,
     Unknown,
 }
@@ -26,7 +25,6 @@ pub(crate) struct Options {
     pub confirmed: bool,
     pub table: bool,
     pub csv: bool,
-    pub air: bool,
     pub force: bool,
     pub help: bool,
     pub wants: bool,
@@ -74,9 +72,6 @@ pub(crate) fn action_of(word: &[u8]) -> Action {
     if same(word, b"totals") {
         return Action::Totals;
     }
-    if same(word, b"services") {
-        return Action::Services;
-    }
     if same(word, b"help") {
         return Action::Help;
     }
@@ -108,7 +103,6 @@ impl Options {
             confirmed: false,
             table: false,
             csv: false,
-            air: false,
             force: false,
             help: false,
             wants: false,
@@ -158,10 +152,6 @@ impl Options {
         }
         if same(word, b"--csv") {
             next.csv = true;
-            return next;
-        }
-        if same(word, b"--air") {
-            next.air = true;
             return next;
         }
         if same(word, b"-f") {

@@ -11,7 +11,6 @@ use libc::{STDERR_FILENO, STDOUT_FILENO};
 use out::front;
 use outputs::{Output, write_output};
 use rules::Outcome;
-use services::Services;
 use table::Table;
 
 // Where progress is told, in bytes of so many: on a terminal, of a file whose size is known. Else 0.
@@ -44,17 +43,12 @@ fn say_unwritten(outcome: Outcome) {
     }
 }
 
-// Says how many blocks were refused, if any.
-fn say_refused(refused: usize) {
-    if refused != 0 {
-        say_number(b"refused blocks: ", refused, b"; 'check' tells which");
-    }
-}
-
 // Says that no set is shown in so many blocks, how many of them were refused, if any, and why that may be.
 fn say_unshown(blocks: usize, refused: usize) {
     say_number(b"no set is shown in ", blocks, b" blocks");
-    say_refused(refused);
+    if refused != 0 {
+        say_number(b"refused blocks: ", refused, b"; 'check' tells which");
+    }
     say(
         b"a set is shown when the next start of its list has come; a refused block drops open lists. 'figs' tells what the blocks hold",
         b"",
@@ -71,27 +65,6 @@ fn remark_table(table: Table, blocks: usize, refused: usize) {
     if sets.count == Table::KEYS {
         say(
             b"the table holds 32 sets, as many as it can: others may have found no room",
-            b"",
-            b"",
-        );
-    }
-}
-
-// The same of services: that none is shown, that the table is full of them.
-fn remark_services(table: Table, blocks: usize, refused: usize) {
-    let services = table.services;
-    if services.shown_count() == 0 {
-        say_number(b"no service is shown in ", blocks, b" blocks");
-        say_refused(refused);
-        say(
-            b"a service is shown when the next start of its list in FIG 0/24 has come; a refused block drops open lists",
-            b"",
-            b"",
-        );
-    }
-    if services.count == Services::MOST {
-        say(
-            b"the table holds 64 services, as many as it can: others may have found no room",
             b"",
             b"",
         );
@@ -121,17 +94,8 @@ fn remark_blocks(size: usize, good: bool) {
     }
 }
 
-// Whether services are asked for.
-fn of_services(asked: Output) -> bool {
-    match asked {
-        Output::Services => true,
-        Output::ServiceBlocks => true,
-        _ => false,
-    }
-}
-
-// What is worth knowing of a recording beside what is listed: of its services, or of its sets.
-fn remark(services: bool, received: Received) {
+// What is worth knowing of a recording beside what is listed.
+fn remark(received: Received) {
     if received.rest != 0 {
         say_number(
             b"a rest of ",
@@ -142,11 +106,7 @@ fn remark(services: bool, received: Received) {
     remark_blocks(received.size, received.good);
     if received.good {
         let table = received.table;
-        if services {
-            remark_services(table, received.size / 32, received.refused);
-        } else {
-            remark_table(table, received.size / 32, received.refused);
-        }
+        remark_table(table, received.size / 32, received.refused);
     }
 }
 
@@ -181,7 +141,7 @@ pub(crate) fn use_recording(
     if !hand_over(asked, table, received.rest, target, path) {
         return false;
     }
-    remark(of_services(asked), received);
+    remark(received);
     true
 }
 

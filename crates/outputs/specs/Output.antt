@@ -5,12 +5,10 @@ use Rattle.text.specs.Listing.{listing}
 use Rattle.text.specs.Confirmed.{confirmed_listing}
 use Rattle.layout.specs.Sheet.{sheet}
 use Rattle.pieces.specs.Air.{air}
-use Rattle.servicetext.specs.ServiceListing.{service_listing}
-use Rattle.servicepieces.specs.ServiceAir.{service_air}
 use Rattle.columns.specs.Columns.{columns}
 use Rattle.screen.specs.Screen.{totals_text}
 use Rattle.outputs.specs.declared.Output.{Output}
-use Rattle.outputs.specs.declared.Output.TheVariants.{Lines, Confirmed, Columns, Spreadsheet, SheetColumns, SheetSpreadsheet, Totals, Sheet, Blocks, Services, ServiceBlocks}
+use Rattle.outputs.specs.declared.Output.TheVariants.{Lines, Confirmed, Columns, Spreadsheet, SheetColumns, SheetSpreadsheet, Totals, Sheet, Blocks}
 
 -- of a table that holds this, after a recording that left so many bytes over
 unfoldable pub output_of : Output → ℕ → Content → List ℕ
@@ -23,5 +21,3 @@ output_of SheetSpreadsheet over c = columns true false c
 output_of Totals over c = totals_text c
 output_of Sheet over c = sheet c
 output_of Blocks over c = air c
-output_of Services over c = service_listing c
-output_of ServiceBlocks over c = service_air c

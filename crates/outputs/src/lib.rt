@@ -1,5 +1,5 @@
 // What can be made of a table: its sets in lines or in columns, with the numbers of blocks (document 02, R-9) or without, its totals,
-// its sheet, its blocks for air; its services in lines, or as blocks for air (R-4). One function, by what is asked for, over the crates that write each; it has no `requires`.
+// its sheet, its blocks for air. One function, by what is asked for, over the crates that write each; it has no `requires`.
 ghost use Rattle.out.specs.Answer.{Outputs};
 ghost use Rattle.outputs.specs.Output.{output_of};
 
@@ -7,8 +7,7 @@ use out::Written;
 use table::Table;
 
 // What is asked for: the sets in lines, without the numbers or with them; in columns for eyes or for a spreadsheet, of a recording
-// with the numbers, and of a sheet, which has none, without; the totals, the stored sheet, or blocks for air; the services in lines, or
-// as blocks for air.
+// with the numbers, and of a sheet, which has none, without; the totals, the stored sheet, or blocks for air.
 #[derive(Drop)]
 pub enum Output {
     Lines,
@@ -20,8 +19,6 @@ pub enum Output {
     Totals,
     Sheet,
     Blocks,
-    Services,
-    ServiceBlocks,
 }
 
 // Writes what is asked for of a table into a lent buffer: 9, then 8, or 0 and its size. The lines alone tell the bytes left over.
@@ -38,7 +35,5 @@ pub fn write_output(asked: Output, table: Table, over: usize, out: &mut [u8]) ->
         Output::Totals => screen::write_totals(table, out),
         Output::Sheet => sheet::write_sheet(table, out),
         Output::Blocks => air::write_air(table, out),
-        Output::Services => servicetext::write_service_listing(table, out),
-        Output::ServiceBlocks => serviceair::write_services(table, out),
     }
 }

@@ -13,14 +13,13 @@ use lib.Arith.{mod-mul}
 use lib.Dec.{leb, ltb, eqb}
 use borrow.Author.Tests.{eqb-true, eq-eqb, ne_eqb, le-ltb, le-leb, lt-leb}
 use Rattle.rules.specs.Block.{bit, check_of, check_holds, Step, item, end, Placed, whole, after, walk, Fig, fig_at, figs}
-use Rattle.rules.specs.Field.{has_list, is_continuation, wrong_value, empty_start, is_linking, Field, width, big_endian, identifiers, list_field, list_bytes, field_at}
-use Rattle.rules.specs.Services.{is_services}
+use Rattle.rules.specs.Field.{has_list, is_continuation, wrong_value, empty_start, is_linking, Field, width, big_endian, identifiers, list_field, list_bytes, field_at, fields_of}
 use Rattle.rules.specs.Collecting.{key_width}
-use Rattle.rules.specs.Outcomes.{Carried, linking, carries, step_as, carried_at, fields_of, wrong_carried, empty_carried, joined, all_fields, some?, judge_fields, judge_figs, taken, verdict}
+use Rattle.rules.specs.Outcomes.{joined, all_fields, some?, judge_fields, judge_figs, taken, verdict}
 use Rattle.pieces.specs.Air.{Piece, big_bytes, all_bytes, field_bytes, fig_bytes, block_of, piece_most}
-use Rattle.rules.proofs.Basics.{cases_bool, or_left, bit_small, every_append, every_take}
+use Rattle.rules.proofs.Basics.{cases_bool, bit_small, every_append, every_take}
 use Rattle.rules.proofs.TableRules.{kind_cases, kind_small}
-use Rattle.rules.proofs.Taken.{walk_item, walk_end, carried_linking}
+use Rattle.rules.proofs.Taken.{walk_item, walk_end}
 use Rattle.crc.proofs.Sizes.{check_small}
 use Rattle.pieces.proofs.Cutting.{Below, most_small, PieceMeets}
 
@@ -60,7 +59,7 @@ ids_back w (n ∷ ns) h =
 -- ---- walks
 
 -- one item and then the end
-pub walk_one : {A : Type 0} (from : ℕ) (at : ℕ → Step A) (n place next : ℕ) (a : A) → at place ≡ item a next → at next ≡ end
+walk_one : {A : Type 0} (from : ℕ) (at : ℕ → Step A) (n place next : ℕ) (a : A) → at place ≡ item a next → at next ≡ end
     → walk from at (suc (suc n)) place ≡ whole (record { place = from + place; what = a } ∷ [])
 unfolding after
 walk_one from at n place next a e f = walk_item from at (suc n) place a next e ∙ ap (after _) (walk_end from at n next f)
@@ -86,15 +85,13 @@ module _ (h a b q : ℕ) (ids : List ℕ) (flag : 128 ≤ a) (full : length ids 
       let e : leb L (4 + list_bytes h a q) ≡ true = le-leb L (4 + list_bytes h a q) (omega arith) in
       rw e
 
-  -- of a linking FIG that is the first of its block
-  abbrev fig : Fig
-  fig = record { type = 0; body = h ∷ a ∷ b ∷ q ∷ ids }
-
-  pub one_field : is_linking fig ≡ true → fields_of (record { place = 0; what = fig }) ≡ whole (record { place = 2; what = linking (list_field h a b q ids) } ∷ [])
-  unfolding fields_of step_as
-  one_field l =
-      walk_one 1 (carried_at fig) (suc (suc (length ids))) 1 (4 + list_bytes h a q) (linking (list_field h a b q ids))
-      (carried_linking fig 1 l ∙ ap (step_as linking) field_there) (carried_linking fig (4 + list_bytes h a q) l ∙ ap (step_as linking) field_end)
+  -- of a FIG that is the first of its block
+  pub one_field :
+      (t : ℕ) → fields_of (record { place = 0; what = record { type = t; body = h ∷ a ∷ b ∷ q ∷ ids } })
+      ≡ whole (record { place = 2; what = list_field h a b q ids } ∷ [])
+  unfolding fields_of
+  one_field t =
+      walk_one 1 (field_at (h ∷ a ∷ b ∷ q ∷ ids)) (suc (suc (length ids))) 1 (4 + list_bytes h a q) (list_field h a b q ids) field_there field_end
 
 -- ---- the field of a piece
 
@@ -221,16 +218,12 @@ list_full k on c n = rw (bytes_width k on c, count_count c n) (all_length (key_w
 unfoldable pub fig_of : ℕ → Bool → Piece → Placed Fig
 fig_of k on c = record { place = 0; what = record { type = 0; body = field_bytes k on c } }
 
-linking_back : (k : ℕ) (on : Bool) (c : Piece) → is_linking (fig_of k on c).what ≡ true
-unfolding is_linking fig_of field_bytes head_byte
-linking_back k on c = eq-eqb (head_byte k c % 32) 6 (head_ext k c)
-
 pub fields_back : (k : ℕ) (on : Bool) (c : Piece) → c.qualifier < 4 → length c.numbers < 16 → Below (256 ^ key_width k) c.numbers
-    → fields_of (fig_of k on c) ≡ whole (record { place = 2; what = linking (field_of k on c) } ∷ [])
+    → fields_of (fig_of k on c) ≡ whole (record { place = 2; what = field_of k on c } ∷ [])
 unfolding fig_of field_bytes head_byte flag_byte count_byte
 fields_back k on c q n h =
-    one_field (head_byte k c) (flag_byte k on) (k % 256) (count_byte c) (all_bytes (key_width k) c.numbers) (flag_set k on) (list_full k on c n) (linking_back k on c)
-    ∙ ap (λ (f : Field). whole (record { place = 2; what = linking f } ∷ [])) (list_back k on c q n h)
+    one_field (head_byte k c) (flag_byte k on) (k % 256) (count_byte c) (all_bytes (key_width k) c.numbers) (flag_set k on) (list_full k on c n) 0
+    ∙ ap (λ (f : Field). whole (record { place = 2; what = f } ∷ [])) (list_back k on c q n h)
 
 -- ---- the block around a FIG
 
@@ -300,22 +293,11 @@ module _ (body tail : List ℕ) (some' : 0 < length body) (few : length body ≤
       let e2 : get_or (L ∷ body ++ 255 ∷ tail) (1 + L) 0 ≡ 255 = get_or_at (L ∷ body) 255 tail 0 (1 + L) (omega arith) in
       rw (e1, e2)
 
-  pub one_fig : figs (length body ∷ body ++ 255 ∷ tail) ≡ whole (record { place = 0; what = record { type = 0; body = body } } ∷ [])
+  one_fig : figs (length body ∷ body ++ 255 ∷ tail) ≡ whole (record { place = 0; what = record { type = 0; body = body } } ∷ [])
   unfolding figs
   one_fig = walk_one 0 (fig_at (length body ∷ body ++ 255 ∷ tail)) 29 0 (1 + length body) (record { type = 0; body = body }) fig_there fig_end
 
 -- ---- the verdict
-
--- a block around one FIG with one field that has no fault is taken, with that field alone
-pub block_taken : (body : List ℕ) (c : Carried) → 0 < length body → length body ≤ 28 → carries (record { type = 0; body = body }) ≡ true
-    → fields_of (record { place = 0; what = record { type = 0; body = body } }) ≡ whole (record { place = 2; what = c } ∷ [])
-    → wrong_carried c ≡ false → empty_carried c ≡ false → verdict (block_of (length body ∷ body)) ≡ taken (c ∷ [])
-unfolding verdict judge_figs judge_fields some? all_fields joined
-block_taken body c some' few l f v s =
-    let fs : List ℕ = length body ∷ body in
-    let front : (tail : List ℕ) × (block_of fs ≡ fs ++ 255 ∷ tail) = block_front fs (omega arith) in
-    let walked : figs (block_of fs) ≡ whole (record { place = 0; what = record { type = 0; body = body } } ∷ []) = ap figs front.1 ∙ one_fig body front.0 some' few in
-    rw (block_length fs, check_back fs, walked, l, f, v, s)
 
 -- the identifiers of a piece have 24 bytes at most
 pub ids_few : (k n : ℕ) → n ≤ piece_most (key_width k) → n * key_width k ≤ 24
@@ -343,6 +325,10 @@ pub fig_length : (k : ℕ) (on : Bool) (c : Piece) → length c.numbers ≤ piec
 unfolding fig_bytes
 fig_length k on c h = omega (arith, field_length k on c, ids_few k (length c.numbers) h)
 
+linking_back : (k : ℕ) (on : Bool) (c : Piece) → is_linking (fig_of k on c).what ≡ true
+unfolding is_linking fig_of field_bytes head_byte
+linking_back k on c = eq-eqb (head_byte k c % 32) 6 (head_ext k c)
+
 -- a piece within the limits, of a key with an LSN, in a set that names nothing where P/D is 1
 module _ (k named : ℕ) (c : Piece) (lsn : k % 4096 ≡ 0 → ⊥) (m : PieceMeets (key_width k) named (piece_most (key_width k)) c)
     (none' : k / 16384 % 2 ≡ 1 → named ≡ 0) where
@@ -369,24 +355,34 @@ module _ (k named : ℕ) (c : Piece) (lsn : k % 4096 ≡ 0 → ⊥) (m : PieceMe
   start_begun on =
       cases_bool c.more (λ e. rw e) (λ e. rw e (ne_eqb (length c.numbers) 0 (λ z. omega (arith, m.begun e))))
 
-  -- a piece's block is taken, with the piece's field alone
-  pub verdict_back : (on : Bool) → verdict (block_of (fig_bytes k on c)) ≡ taken (linking (field_of k on c) ∷ [])
-  unfolding fig_bytes fig_of carries wrong_carried empty_carried
-  verdict_back on =
-      let few : length c.numbers < 16 = omega (arith, m.few, most_small (key_width k)) in
+  figs_back : (on : Bool) → figs (block_of (fig_bytes k on c)) ≡ whole (fig_of k on c ∷ [])
+  unfolding fig_bytes fig_of
+  figs_back on =
       let n : length (field_bytes k on c) ≡ 4 + length c.numbers * key_width k = field_length k on c in
-      block_taken (field_bytes k on c) (linking (field_of k on c)) (omega arith) (omega (arith, ids_few k (length c.numbers) m.few))
-      (or_left (is_linking (fig_of k on c).what) (is_services (fig_of k on c).what) (linking_back k on c))
-      (fields_back k on c (kind_small named c.qualifier m.kind) few m.within) (values_right on) (start_begun on)
+      let f : length (fig_bytes k on c) ≤ 29 = fig_length k on c m.few in
+      let front : (tail : List ℕ) × (block_of (fig_bytes k on c) ≡ fig_bytes k on c ++ 255 ∷ tail) = block_front (fig_bytes k on c) f in
+      ap figs front.1 ∙ one_fig (field_bytes k on c) front.0 (omega arith) (omega arith)
+
+  all_fields_back : (on : Bool) → all_fields (fig_of k on c ∷ []) ≡ whole (record { place = 2; what = field_of k on c } ∷ [])
+  unfolding all_fields joined
+  all_fields_back on =
+      let few : length c.numbers < 16 = omega (arith, m.few, most_small (key_width k)) in
+      rw (linking_back k on c, fields_back k on c (kind_small named c.qualifier m.kind) few m.within)
+
+  -- a piece's block is taken, with the piece's field alone
+  pub verdict_back : (on : Bool) → verdict (block_of (fig_bytes k on c)) ≡ taken (field_of k on c ∷ [])
+  unfolding verdict judge_figs judge_fields some?
+  verdict_back on =
+      rw (block_length (fig_bytes k on c), check_back (fig_bytes k on c), figs_back on, all_fields_back on, values_right on, start_begun on)
 
 -- ---- the bytes of a block
 
-pub big_bytes_law : (w n : ℕ) → Below 256 (big_bytes w n)
+big_bytes_law : (w n : ℕ) → Below 256 (big_bytes w n)
 unfolding big_bytes
 big_bytes_law zero n = tt
 big_bytes_law (suc w) n = (omega arith, big_bytes_law w n)
 
-pub all_bytes_law : (w : ℕ) (ns : List ℕ) → Below 256 (all_bytes w ns)
+all_bytes_law : (w : ℕ) (ns : List ℕ) → Below 256 (all_bytes w ns)
 unfolding all_bytes
 all_bytes_law w [] = tt
 all_bytes_law w (n ∷ ns) = every_append (λ (b : ℕ). b < 256) (big_bytes w n) (all_bytes w ns) (big_bytes_law w n) (all_bytes_law w ns)
@@ -410,7 +406,7 @@ data_bytes fs h =
     every_take P 30 (fs ++ 255 ∷ replicate 30 0) (every_append P fs (255 ∷ replicate 30 0) h (omega arith, zero_bytes 30))
 
 -- a block around bytes is made of bytes
-pub block_bytes : (fs : List ℕ) → Below 256 fs → Below 256 (block_of fs)
+block_bytes : (fs : List ℕ) → Below 256 fs → Below 256 (block_of fs)
 block_bytes fs h =
     let P : ℕ → Type 0 = λ b. b < 256 in
     let d : List ℕ = block_data fs in

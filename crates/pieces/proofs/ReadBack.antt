@@ -15,18 +15,14 @@ use Rattle.rules.specs.Block.{bit}
 use Rattle.rules.specs.Field.{Field, key_of, pairs_of, named_by, has_list, is_continuation}
 use Rattle.rules.specs.Family.{start, continuation, Said, step, steps}
 use Rattle.rules.specs.Collecting.{linkage, join_names, IdSet, Held, Entries, Content, nothing, brings, act_of, said, key_width, oe_of, first_of, set_meets, if_there, entry_meets, ascends, entries_meet, meets, Shown, showing, shown_sets, most_keys}
-use Rattle.rules.specs.Outcomes.{linking, linking_in, verdict, taken, read_recording, left_over}
-use Rattle.rules.specs.Alone.{alone_after}
-use Rattle.rules.specs.Numbers.{bare, plain_said, plain_recording}
+use Rattle.rules.specs.Outcomes.{verdict, taken, read_recording, left_over}
+use Rattle.rules.specs.Numbers.{bare, plain_after, plain_blocks, plain_recording}
 use Rattle.pieces.specs.Air.{Piece, piece_most, pieces, fig_bytes, block_of, blocks_of, set_blocks, all_blocks, air}
 use Rattle.rules.proofs.Basics.{cases_bool, cases-option, and_left, and_right, Every, every_append, every_imp}
 use Rattle.rules.proofs.TableRules.{kind_small, names_small, names_none, lawful, all_differ_law, SetRules, set_rules, entry_rules, key_meets_law, table_rules, sets_meet_law, shown_few, join_assoc, join_to_zero}
 use Rattle.rules.proofs.LinkageLaws.{recording_append}
 use Rattle.rules.proofs.Numbers.{bare_shown_law, plain_recording_law}
-use Rattle.rules.proofs.Sent.{with_piece, with_pieces, Continue, Sends}
-use Rattle.rules.proofs.Alone.{alone_block}
-use Rattle.rules.proofs.Sending as Sending
-use Rattle.rules.proofs.Sending.{EachTaken, taken_none, taken_first, Sender, Up, all_of, sent_once, sent_twice}
+use Rattle.rules.proofs.Sent.{KeysBefore, with_piece, with_pieces, Continue, Sends, sent_new, sent_again}
 use Rattle.pieces.proofs.Cutting.{Below, piece_pairs, flat, flat_pieces, IsMore, Shape, pieces_shape, PieceMeets, pieces_meet, set_count, pieces_named, pieces_named_law}
 use Rattle.pieces.proofs.BlockBack.{field_of, block_length, verdict_back, piece_bytes}
 
@@ -73,6 +69,17 @@ unfolding said said_of field_of
 said_back k on c h = λ i. record { key = key_back k on c h i; state = state_back on i; act = act_back k on c i; stamp = 0 }
 
 -- ---- a set's pieces as fields
+
+-- what is held of a key
+unfoldable pub entry : ℕ → Bool → Option IdSet → Option IdSet → Held
+entry k on sh dr = record { key = k; state = on; shown = sh; draft = dr; stamp = 0 }
+
+-- every key of a content is below a key
+abbrev pub KeysBelow : ℕ → Entries → Type 0
+KeysBelow k t = Every (λ (e : Held). e.key < k) t
+
+keys_before : (k : ℕ) (t : Entries) → KeysBelow k t → KeysBefore linkage k t
+keys_before k t h = every_imp (λ (e : Held). e.key < k) (λ (e : Held). ltb e.key k ≡ true) (λ e l. lt-ltb e.key k l) t h
 
 -- the list that the pieces after the first make of it
 unfoldable pub collected : ℕ → IdSet → List Piece → IdSet
@@ -131,16 +138,54 @@ module _ (k : ℕ) (l : IdSet) (parts : SetRules k l) where
           whole = collected_is k (brings_of k shape_of.first) shape_of.others ∙ whole_back;
         }
 
+    module _ (pre : Entries) (low : KeysBelow k pre) where
+      -- a set of a new key: it is the open list, and nothing is shown
+      steps_new : length pre < most_keys → (steps linkage pre (map (said_of k on) (pieces k l))).0 ≡ pre ++ entry k on none (some l) ∷ []
+      unfolding entry
+      steps_new r =
+          sent_new linkage lawful k on pre (keys_before k pre low) l parts.short ((all_differ_law l.items).0 parts.differ) (map (said_of k on) (pieces k l))
+          sends r
+
+      -- a set of a key with an open list: that list is shown, and the set is the open list
+      steps_again : (post : Entries) (b : Bool) (sh : Option IdSet) (d : IdSet)
+          → (steps linkage (pre ++ entry k b sh (some d) ∷ post) (map (said_of k on) (pieces k l))).0 ≡ pre ++ entry k on (some d) (some l) ∷ post
+      unfolding entry sends said_of
+      steps_again post b sh d =
+          sent_again linkage lawful k on pre (keys_before k pre low) l parts.short ((all_differ_law l.items).0 parts.differ) (map (said_of k on) (pieces k l))
+          sends post b sh d 0
+
 -- ---- a set's blocks
 
 -- a recording read into sets, apart from their numbers
 abbrev read_into : Entries → List ℕ → Entries
 read_into t bytes = plain_recording t bytes
 
+-- a block in front of a recording
+read_block_law : (t : Entries) (b rest : List ℕ) → length b ≡ 32 → read_into t (b ++ rest) ≡ read_into (plain_after t (verdict b)) rest
+unfolding plain_recording plain_blocks
+read_block_law t b rest h =
+    let n : length (b ++ rest) / 32 ≡ suc (length rest / 32) = omega (arith, length-append b rest) in
+    ap (λ (x : ℕ). plain_blocks x t (b ++ rest)) n
+    ∙ ap (λ (x : List ℕ). plain_blocks (length rest / 32) (plain_after t (verdict x)) (drop 32 (b ++ rest))) (take_at b rest 32 h)
+    ∙ ap (λ (x : List ℕ). plain_blocks (length rest / 32) (plain_after t (verdict b)) x) (drop_at b rest 32 h)
+
 -- a taken block with one field
-read_taken : (t : Entries) (b : List ℕ) (f : Field) → verdict b ≡ taken (linking f ∷ []) → alone_after linkage plain_said t (verdict b) ≡ (step linkage t (said 0 f)).0
-unfolding alone_after steps linking_in
+read_taken : (t : Entries) (b : List ℕ) (f : Field) → verdict b ≡ taken (f ∷ []) → plain_after t (verdict b) ≡ (step linkage t (said 0 f)).0
+unfolding plain_after steps
 read_taken t b f e = rw e
+
+-- every block of a recording is taken, with one field
+abbrev pub EachTaken : List ℕ → Type 0
+EachTaken bytes = (i : ℕ) → 32 * i < length bytes → (f : Field) × (verdict (take 32 (drop (32 * i) bytes)) ≡ taken (f ∷ []))
+
+taken_first : (b rest : List ℕ) (f : Field) → length b ≡ 32 → verdict b ≡ taken (f ∷ []) → EachTaken rest → EachTaken (b ++ rest)
+taken_first b rest f n e h zero j = (f, ap verdict (take_at b rest 32 n) ∙ e)
+taken_first b rest f n e h (suc i) j =
+    let l : length (b ++ rest) ≡ length b + length rest = length-append b rest in
+    let r : (g : Field) × (verdict (take 32 (drop (32 * i) rest)) ≡ taken (g ∷ [])) = h i (omega arith) in
+    let p : 32 * suc i ≡ length b + 32 * i = omega arith in
+    let d : drop (32 * suc i) (b ++ rest) ≡ drop (32 * i) rest = ap (λ (x : ℕ). drop x (b ++ rest)) p ∙ drop-append-add b rest (32 * i) in
+    (r.0, ap (λ (x : List ℕ). verdict (take 32 x)) d ∙ r.1)
 
 -- a shown set that can be sent: its key is below 65,536 and has an LSN, and it meets the table rules
 pub record Sendable (s : Shown) : Type 0 where
@@ -157,7 +202,7 @@ module _ (k named : ℕ) (on : Bool) (small : k < 65536) (lsn : k % 4096 ≡ 0 �
   read_pieces t (c ∷ cs) rest m =
       let b : List ℕ = block_of (fig_bytes k on c) in
       ap (λ (x : List ℕ). read_into t x) (append_assoc b (blocks_of k on cs) rest)
-      ∙ alone_block linkage plain_said t b (blocks_of k on cs ++ rest) (block_length (fig_bytes k on c))
+      ∙ read_block_law t b (blocks_of k on cs ++ rest) (block_length (fig_bytes k on c))
       ∙ ap (λ (x : Entries). read_into x (blocks_of k on cs ++ rest))
       (read_taken t b (field_of k on c) (verdict_back k named c lsn m.0 none' on) ∙ ap (λ (f : Said linkage). (step linkage t f).0) (said_back k on c small))
       ∙ read_pieces (step linkage t (said_of k on c)).0 cs rest m.1
@@ -170,7 +215,7 @@ module _ (k named : ℕ) (on : Bool) (small : k < 65536) (lsn : k % 4096 ≡ 0 �
   taken_pieces (c ∷ cs) rest m h =
       let b : List ℕ = block_of (fig_bytes k on c) in
       rw (append_assoc b (blocks_of k on cs) rest)
-      (taken_first b (blocks_of k on cs ++ rest) (linking (field_of k on c)) (block_length (fig_bytes k on c)) (verdict_back k named c lsn m.0 none' on)
+      (taken_first b (blocks_of k on cs ++ rest) (field_of k on c) (block_length (fig_bytes k on c)) (verdict_back k named c lsn m.0 none' on)
       (taken_pieces cs rest m.1 h))
 
 pub blocks_length : (k : ℕ) (on : Bool) (cs : List Piece) → length (blocks_of k on cs) ≡ 32 * length cs
@@ -225,47 +270,53 @@ order_lower : (m n : ℕ) (ss : List Shown) → m ≤ n → InOrder n ss → InO
 order_lower m n [] h g = tt
 order_lower m n (s ∷ ss) h g = (omega (arith, g.0), g.1, g.2)
 
--- how a shown set is sent
-abbrev pub sender : Sender linkage Shown
-sender = record { key = λ s. s.key; state = λ s. s.on; list = λ s. s.set; blocks = set_blocks }
-
-set_sendable : (s : Shown) → Sendable s → Sending.Sendable linkage plain_said sender s
-unfolding said_of
-set_sendable s h =
-    let parts = (set_rules s.key s.set).0 h.right in
-    record {
-      short = parts.short;
-      differ = (all_differ_law s.set.items).0 parts.differ;
-      fields = map (said_of s.key s.on) (pieces s.key s.set);
-      sends = sends s.key s.set parts s.on;
-      unnumbered = unfold sends in refl;
-      reads = λ t rest. read_set_law s t rest h;
-    }
-
-order_all : (last : ℕ) (ss : List Shown) → InOrder last ss → Every (λ (s : Shown). ltb last s.key ≡ true) ss
-order_all last [] o = tt
-order_all last (s ∷ ss) o = (lt-ltb last s.key o.0, order_all last ss (order_lower last s.key ss (omega (arith, o.0)) o.2))
-
-in_order : (last : ℕ) (ss : List Shown) → InOrder last ss → Up linkage plain_said sender ss
-in_order last [] o = tt
-in_order last (s ∷ ss) o = (set_sendable s o.1, order_all s.key ss o.2, in_order s.key ss o.2)
-
--- all blocks, one set after the other
-all_of_law : (ss : List Shown) → all_of linkage plain_said sender ss ≡ all_blocks ss
-unfolding all_of all_blocks
-all_of_law [] = refl
-all_of_law (s ∷ ss) = ap (λ (x : List ℕ). set_blocks s ++ x) (all_of_law ss)
-
 -- a set as the open list of its key, with nothing shown; and the same with it shown too
-abbrev pub opened : Shown → Held
-opened s = Sending.opened linkage plain_said sender s
+unfoldable pub opened : Shown → Held
+opened s = entry s.key s.on none (some s.set)
 
-abbrev pub again : Shown → Held
-again s = Sending.again linkage plain_said sender s
+unfoldable pub again : Shown → Held
+again s = entry s.key s.on (some s.set) (some s.set)
+
+keys_up : (m n : ℕ) (t : Entries) → m ≤ n → KeysBelow m t → KeysBelow n t
+keys_up m n t h g = every_imp (λ (e : Held). e.key < m) (λ (e : Held). e.key < n) (λ e x. omega arith) t g
+
+keys_next : (t : Entries) (e : Held) → KeysBelow e.key t → KeysBelow (suc e.key) (t ++ e ∷ [])
+keys_next t e h =
+    every_append (λ (x : Held). x.key < suc e.key) t (e ∷ []) (keys_up e.key (suc e.key) t (omega arith) h) (omega arith, tt)
+
+-- read once: every set is the open list of its key
+first_pass : (pre : Entries) (last : ℕ) (ss : List Shown) (rest : List ℕ) → InOrder last ss → KeysBelow (suc last) pre → length pre + length ss ≤ most_keys
+    → read_into pre (all_blocks ss ++ rest) ≡ read_into (pre ++ map opened ss) rest
+unfolding all_blocks opened entry
+first_pass pre last [] rest o k n = ap (λ (t : Entries). read_into t rest) (sym (append-nil pre))
+first_pass pre last (s ∷ ss) rest o k n =
+    let low : KeysBelow s.key pre = keys_up (suc last) s.key pre o.0 k in
+    ap (λ (x : List ℕ). read_into pre x) (append_assoc (set_blocks s) (all_blocks ss) rest)
+    ∙ read_set_law s pre (all_blocks ss ++ rest) o.1
+    ∙ ap (λ (t : Entries). read_into t (all_blocks ss ++ rest))
+    (steps_new s.key s.set ((set_rules s.key s.set).0 o.1.right) s.on pre low (omega arith))
+    ∙ first_pass (pre ++ opened s ∷ []) s.key ss rest o.2 (keys_next pre (opened s) low) (omega (arith, length-append pre (opened s ∷ [])))
+    ∙ ap (λ (t : Entries). read_into t rest) (append_assoc pre (opened s ∷ []) (map opened ss))
+
+-- read again: every one is shown
+second_pass : (pre : Entries) (last : ℕ) (ss : List Shown) (rest : List ℕ) → InOrder last ss → KeysBelow (suc last) pre
+    → read_into (pre ++ map opened ss) (all_blocks ss ++ rest) ≡ read_into (pre ++ map again ss) rest
+unfolding all_blocks opened again entry
+second_pass pre last [] rest o k = refl
+second_pass pre last (s ∷ ss) rest o k =
+    let low : KeysBelow s.key pre = keys_up (suc last) s.key pre o.0 k in
+    let t : Entries = pre ++ opened s ∷ map opened ss in
+    ap (λ (x : List ℕ). read_into t x) (append_assoc (set_blocks s) (all_blocks ss) rest)
+    ∙ read_set_law s t (all_blocks ss ++ rest) o.1
+    ∙ ap (λ (x : Entries). read_into x (all_blocks ss ++ rest))
+    (steps_again s.key s.set ((set_rules s.key s.set).0 o.1.right) s.on pre low (map opened ss) s.on none s.set
+    ∙ sym (append_assoc pre (again s ∷ []) (map opened ss)))
+    ∙ second_pass (pre ++ again s ∷ []) s.key ss rest o.2 (keys_next pre (again s) low)
+    ∙ ap (λ (x : Entries). read_into x rest) (append_assoc pre (again s ∷ []) (map again ss))
 
 taken_all : (last : ℕ) (ss : List Shown) → InOrder last ss → EachTaken (all_blocks ss)
 unfolding all_blocks
-taken_all last [] o = taken_none
+taken_all last [] o = λ i h. absurd (omega arith)
 taken_all last (s ∷ ss) o = taken_set s (all_blocks ss) o.1 (taken_all s.key ss o.2)
 
 all_blocks_length : (last : ℕ) (ss : List Shown) → InOrder last ss → length (all_blocks ss) ≤ 4128 * length ss
@@ -291,7 +342,7 @@ all_blocks_bytes last (s ∷ ss) o =
 -- ---- the shown sets of a content
 
 shown_again : (ss : List Shown) → shown_sets (map again ss) ≡ ss
-unfolding shown_sets showing Sending.again
+unfolding shown_sets showing again entry
 shown_again [] = refl
 shown_again (s ∷ ss) = ap (λ (r : List Shown). s ∷ r) (shown_again ss)
 
@@ -329,23 +380,35 @@ shown_most t h = omega (arith, shown_few t.sets, ((table_rules t.sets).0 (sets_m
 
 -- ---- the theorems
 
+-- the output in front of a recording, read into no sets: each shown set is the open list of its key
+air_front : (t : Content) (rest : List ℕ) → meets t ≡ true → read_into [] (air t ++ rest) ≡ read_into (map opened (shown_sets t.sets)) rest
+unfolding air
+air_front t rest h = first_pass [] 0 (shown_sets t.sets) rest (shown_order t h) tt (omega (arith, shown_most t h))
+
+-- read into what that leaves: each is shown too
+air_next : (t : Content) (rest : List ℕ) → meets t ≡ true → read_into (map opened (shown_sets t.sets)) (air t ++ rest) ≡ read_into (map again (shown_sets t.sets)) rest
+unfolding air
+air_next t rest h = second_pass [] 0 (shown_sets t.sets) rest (shown_order t h) tt
+
+-- a recording with nothing after it
+read_alone : (t : Entries) (bytes : List ℕ) → read_into t bytes ≡ read_into t (bytes ++ [])
+read_alone t bytes = ap (read_into t) (sym (append-nil bytes))
+
+read_nothing : (t : Entries) → read_into t [] ≡ t
+unfolding plain_recording plain_blocks
+read_nothing t = refl
+
 -- what the output leaves when it is read into the empty content, apart from numbers: every shown set as an open list, and nothing shown
 pub air_once : (t : Content) → meets t ≡ true → map (bare linkage) (read_recording nothing (air t)).sets ≡ map opened (shown_sets t.sets)
-unfolding air
-air_once t h =
-    let ss = shown_sets t.sets in
-    plain_recording_law nothing (all_blocks ss)
-    ∙ ap (read_into []) (sym (all_of_law ss)) ∙ sent_once linkage plain_said sender lawful ss (in_order 0 ss (shown_order t h)) (shown_most t h)
+air_once t h = plain_recording_law nothing (air t) ∙ read_alone [] (air t) ∙ air_front t [] h ∙ read_nothing (map opened (shown_sets t.sets))
 
 -- what it leaves when it is read twice: every shown set shown, with its on or off, and once more as an open list
 pub air_twice : (t : Content) → meets t ≡ true
     → map (bare linkage) (read_recording (read_recording nothing (air t)) (air t)).sets ≡ map again (shown_sets t.sets)
 air_twice t h =
-    let ss = shown_sets t.sets in
-    let whole : air t ≡ all_of linkage plain_said sender ss = unfold air in sym (all_of_law ss) in
     plain_recording_law (read_recording nothing (air t)) (air t)
     ∙ ap (λ (x : Entries). read_into x (air t)) (air_once t h)
-    ∙ ap (read_into (map opened ss)) whole ∙ sent_twice linkage plain_said sender lawful ss (in_order 0 ss (shown_order t h))
+    ∙ read_alone (map opened (shown_sets t.sets)) (air t) ∙ air_next t [] h ∙ read_nothing (map again (shown_sets t.sets))
 
 -- the whole output read twice into the empty content shows the same sets
 pub air_shows : (t : Content) → meets t ≡ true → shown_sets (read_recording (read_recording nothing (air t)) (air t)).sets ≡ shown_sets t.sets

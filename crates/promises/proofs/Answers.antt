@@ -3,7 +3,7 @@
 -- answer: when it is given, its number, and what is left), that there are no others, and what a refusal leaves.
 use Prim.Native.Nat.{ℕ, ◌%◌, ◌≤◌, ◌<◌}
 use native.Mathlib.Omega.{arith}
-use mathlib.Core.Path.{◌≡◌, refl, sym, ap, ◌∙◌, subst}
+use mathlib.Core.Path.{◌≡◌, refl, sym, ap, ap₂, ◌∙◌, subst}
 use mathlib.Core.Bool.{true, false, ◌||◌}
 use mathlib.Core.List.{List, [], ◌∷◌}
 use mathlib.Core.Logic.{◌⊎◌, inl, inr}
@@ -13,14 +13,15 @@ use lib.Dec.{ltb, eqb}
 use borrow.Author.Tests.{eqb-true, eqb-false, ltb-true, ltb-false}
 use Rattle.rules.specs.declared.Outcome.{Outcome}
 use Rattle.rules.specs.declared.Outcome.TheVariants.{Done, NotHeld, ShortBuffer, WrongTable, NotShown}
-use Rattle.rules.specs.Family.{find, forget}
-use Rattle.rules.specs.Collecting.{linkage, IdSet, Held, Entries, Content, with_sets, next_block, meets, most_keys}
+use Rattle.rules.specs.Field.{Field}
+use Rattle.rules.specs.Family.{find, forget, drop_open}
+use Rattle.rules.specs.Collecting.{linkage, IdSet, Held, Entries, Content, with_sets, next_block, after_block, meets, most_keys}
 use Rattle.rules.specs.Outcomes as Outcomes
-use Rattle.rules.specs.Outcomes.{number_of, Carried, taken, verdict, left_over, refusals, roomless, held_or, forget_outcome, forgotten, copy_set, copy_held, copy_out, not_copied}
+use Rattle.rules.specs.Outcomes.{number_of, taken, verdict, left_over, refusals, roomless, held_or, forget_outcome, forgotten, copy_set, copy_held, copy_out, not_copied}
 use Rattle.rules.proofs.Basics.{cases_bool, cases-option, none_some, or_cases, or_false_left, or_false_right}
-use Rattle.rules.proofs.LinkageLaws.{dropped, cases-verdict, answer_taken, answer_refused, no_block_law, notes_fields, Refused, Refusal, full_refusal, refused_full, refused_numbers}
+use Rattle.rules.proofs.LinkageLaws.{cases-verdict, answer_taken, answer_refused, no_block_law, notes_fields, Refused, Refusal, full_refusal, refused_full, refused_numbers}
 use Rattle.rules.proofs.FirstFault.{FirstFault, of_check, of_fig, of_field, of_value, of_start, first_fault_in_class}
-use Rattle.rules.proofs.TableRules.{table_rules, content_meets, sets_meet_law}
+use Rattle.rules.proofs.TableRules.{table_rules, sets_meet_law}
 use Rattle.lists.specs.Stored.{empty_list}
 use Rattle.table.specs.declared.Table.{Table}
 use Rattle.table.specs.declared.Forgotten.{Forgotten}
@@ -30,11 +31,10 @@ use Rattle.table.specs.Stored.{table_of, store_table, Stored, stored, not_stored
 use Rattle.table.specs.Answers.{forgotten_as, copied_as}
 use Rattle.totals.specs.Totals.{sums, totals_of, no_totals}
 use Rattle.totals.proofs.Laws.{shown_closed}
+use Rattle.totals.specs.declared.Totals.{Totals}
+use Rattle.sets.specs.declared.Sets.{Sets}
 use Rattle.sets.specs.Stored.{with_draft}
 use Rattle.sets.proofs.StoreLaws.{store_closed}
-use Rattle.services.specs.Stored.{closed_services}
-use Rattle.services.proofs.StoreLaws as Service
-use Rattle.services.proofs.TableRules as Service'
 use Rattle.reading.specs.declared.Answer.{Answer}
 use Rattle.reading.specs.declared.Recorded.{Recorded}
 use Rattle.reading.specs.Steps.{store_notes, no_notes}
@@ -44,14 +44,14 @@ use Rattle.promises.proofs.Contracts.{ReadsBlock, ReadsRecording, Forgets, Copie
 
 -- ---- reading a block: 0 to 6, or 9
 
--- no list is open, of either family, and one block more is counted; held keys, on and off, shown sets and their numbers, totals, held
--- services and what they show, and whatever else there is, are as they were
+-- no list is open, and one block more is counted; held keys, on and off, shown sets and their numbers, totals, and whatever else there
+-- is, are as they were
 abbrev pub OpenDropped : Table → Table → Type 0
-OpenDropped t u = u ≡ table_of (with_draft t.sets (replicate most_keys empty_list)) t.totals (next_block t.blocks) (closed_services t.services)
+OpenDropped t u = u ≡ table_of (with_draft t.sets (replicate most_keys empty_list)) t.totals (next_block t.blocks)
 
 pub data BlockAnswer (t : Table) (fib : List ℕ) (r : Answer) : Type 0 where
   -- 0, with one note a field
-  done : Stored t → (fs : List Carried) → verdict fib ≡ taken fs → number_of r.outcome ≡ 0 → r.place ≡ 0 → r.notes.count ≡ length fs → BlockAnswer t fib r
+  done : Stored t → (fs : List Field) → verdict fib ≡ taken fs → number_of r.outcome ≡ 0 → r.place ≡ 0 → r.notes.count ≡ length fs → BlockAnswer t fib r
   -- 1: everything is left as it was
   not_aBlock : Stored t → (length fib ≡ 32 → ⊥) → number_of r.outcome ≡ 1 → r.place ≡ 0 → r.notes ≡ no_notes → r.table ≡ t → BlockAnswer t fib r
   -- 2 to 6, each for its reason, at the place of the first fault within the class answered: everything but the open lists and the count
@@ -61,15 +61,12 @@ pub data BlockAnswer (t : Table) (fib : List ℕ) (r : Answer) : Type 0 where
   -- 9: everything is left as it was
   wrong_table : (Stored t → ⊥) → number_of r.outcome ≡ 9 → r.place ≡ 0 → r.notes ≡ no_notes → r.table ≡ t → BlockAnswer t fib r
 
-open_dropped : (t u : Table) (c : Content) → meets c ≡ true → t ≡ store_table c → u ≡ store_table (dropped c) → OpenDropped t u
+dropped : (t u : Table) (c : Content) → meets c ≡ true → t ≡ store_table c → u ≡ store_table (after_block c (drop_open linkage c.sets)) → OpenDropped t u
 unfolding totals_of
-open_dropped t u c f p q =
-    let s = store_closed c.sets ((table_rules c.sets).0 (sets_meet_law c f)).short in
-    let n = ap sums (shown_closed c.sets) in
-    let v = Service.store_closed c.services ((Service'.table_rules c.services).0 ((content_meets c).0 f).services).short in
+dropped t u c f p q =
     q
-    ∙ (λ i. table_of (s i) (n i) (next_block c.blocks) (v i))
-    ∙ ap (λ (x : Table). table_of (with_draft x.sets (replicate most_keys empty_list)) x.totals (next_block x.blocks) (closed_services x.services)) (sym p)
+    ∙ ap₂ (λ (s : Sets) (n : Totals). table_of s n (next_block c.blocks)) (store_closed c.sets ((table_rules c.sets).0 (sets_meet_law c f)).short) (ap sums (shown_closed c.sets))
+    ∙ ap (λ (x : Table). table_of (with_draft x.sets (replicate most_keys empty_list)) x.totals (next_block x.blocks)) (sym p)
 
 pub read_block_answers : (t : Table) (fib : List ℕ) (r : Answer) → ReadsBlock t fib r → BlockAnswer t fib r
 unfolding Stored run_as refused_table number_of store_notes
@@ -85,7 +82,7 @@ read_block_answers t fib r (stored c f p a) =
     let b = refused_full fib o w e in
     let why = subst (λ (x : Answer). Refused fib (number_of x.outcome) x.place) (sym q) b.1 in
     refused_block (c, f, p) b.0 why (first_fault_in_class fib _ _ b.0 why)
-    (ap (λ (x : Answer). x.notes) q ∙ sym no_notes_law) (open_dropped t r.table c f p (ap (λ (x : Answer). x.table) q)))
+    (ap (λ (x : Answer). x.notes) q ∙ sym no_notes_law) (dropped t r.table c f p (ap (λ (x : Answer). x.table) q)))
     (λ e. absurd (subst (Refusal fib) e (full_refusal fib (eqb-true _ _ l)))))
     (λ l.
     let q = a ∙ ap run_as (no_block_law c fib (eqb-false _ _ l)) in

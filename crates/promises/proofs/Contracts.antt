@@ -5,17 +5,13 @@ use mathlib.Core.Path.{◌≡◌}
 use mathlib.Core.Bool.{Bool}
 use mathlib.Core.List.{List}
 use Rattle.rules.specs.declared.Outcome.TheVariants.{Done, WrongTable}
-use Rattle.rules.specs.Outcomes.{read_block, copy_out, not_copied, service_not_copied, copy_service}
+use Rattle.rules.specs.Outcomes.{read_block, copy_out, not_copied}
 use Rattle.pieces.specs.Air.{air}
 use Rattle.layout.specs.Sheet.{sheet}
 use Rattle.text.specs.Listing.{listing}
 use Rattle.text.specs.Confirmed.{confirmed_listing}
 use Rattle.screen.specs.Screen.{totals_text}
 use Rattle.totals.specs.Totals.{totals_of, no_totals}
-use Rattle.found.specs.declared.CopiedService.{CopiedService}
-use Rattle.found.specs.Answers as Found
-use Rattle.servicetext.specs.ServiceListing.{service_listing}
-use Rattle.servicepieces.specs.ServiceAir.{service_air}
 use Rattle.table.specs.declared.Table.{Table}
 use Rattle.table.specs.declared.Forgotten.{Forgotten}
 use Rattle.table.specs.declared.Copied.{Copied}
@@ -44,15 +40,6 @@ Forgets t k r = Given t (λ c. r ≡ forgotten_as k c) (r ≡ record { outcome =
 abbrev pub CopiesOut : Table → ℕ → List ℕ → List ℕ → Copied → List ℕ → List ℕ → Type 0
 CopiesOut t k ns ks r ms js = Given t (λ c. copied_as r ms js ≡ copy_out k c ns ks) (copied_as r ms js ≡ not_copied WrongTable ns ks)
 
--- of a service, named by three numbers
-abbrev pub ForgetsService : Table → ℕ → ℕ → ℕ → Forgotten → Type 0
-ForgetsService t oe pd n r = Given t (λ c. r ≡ Found.forgotten_as oe pd n c) (r ≡ record { outcome = WrongTable; table = t })
-
--- the buffer before, the answer, the buffer after
-abbrev pub CopiesService : Table → ℕ → ℕ → ℕ → List ℕ → CopiedService → List ℕ → Type 0
-CopiesService t oe pd n ns r ms =
-    Given t (λ c. Found.copied_as r ms ≡ copy_service oe pd n c ns) (Found.copied_as r ms ≡ service_not_copied WrongTable ns)
-
 abbrev pub Counts : Table → Counted → Type 0
 Counts t r = Given t (λ c. r ≡ record { outcome = Done; totals = totals_of c }) (r ≡ record { outcome = WrongTable; totals = no_totals })
 
@@ -76,13 +63,6 @@ WritesSheet = Outputs sheet
 
 abbrev pub WritesAir : Table → List ℕ → Written → List ℕ → Type 0
 WritesAir = Outputs air
-
--- of the services
-abbrev pub WritesServiceListing : Table → List ℕ → Written → List ℕ → Type 0
-WritesServiceListing = Outputs service_listing
-
-abbrev pub WritesServices : Table → List ℕ → Written → List ℕ → Type 0
-WritesServices = Outputs service_air
 
 -- by what is asked for, with the bytes left over
 abbrev pub WritesOutput : Output → Table → ℕ → List ℕ → Written → List ℕ → Type 0

@@ -1,5 +1,5 @@
 -- Whatever bytes, table and buffers are handed over, a call ends with one answer of the numbered list; a refusal takes away the open
--- lists of both families and counts one block more, where a block of 32 bytes was refused for what is in it, and nothing else (document 00, demand 1; since
+-- lists and counts one block more, where a block of 32 bytes was refused for what is in it, and nothing else (document 00, demand 1; since
 -- document 02's R-9 such a block is counted).
 --
 -- Below, of the code of each public function, which requires nothing of its caller: it ends, and the answer, with what is left, is one
@@ -13,17 +13,11 @@ use Rattle.text.specs.Listing.{listing}
 use Rattle.text.specs.Confirmed.{confirmed_listing}
 use Rattle.columns.specs.Columns.{columns}
 use Rattle.screen.specs.Screen.{totals_text}
-use Rattle.servicetext.specs.ServiceListing.{service_listing}
-use Rattle.servicepieces.specs.ServiceAir.{service_air}
 use Rattle.outputs.specs.Output.{output_of}
-use Rattle.reading.proofs.read_block as read-block
+use Rattle.reading.proofs.read_block as read_block_law
 use Rattle.reading.proofs.read_recording as read-recording
 use Rattle.table.proofs.forget_key as forget_key
 use Rattle.table.proofs.copy_out as copy-out
-use Rattle.found.proofs.forget_service as forget-service
-use Rattle.found.proofs.copy_service as copy-service
-use Rattle.servicetext.proofs.write_service_listing as write-service-listing
-use Rattle.serviceair.proofs.write_services as write-services
 use Rattle.table.proofs.Table.totals as totals
 use Rattle.text.proofs.write_listing as write-listing
 use Rattle.text.proofs.write_confirmed as write-confirmed
@@ -36,22 +30,19 @@ use Rattle.sheet.proofs.load_sheet as load-sheet
 use Rattle.promises.proofs.Proved as Proved
 use Rattle.promises.proofs.Proved.{Promised, promised_so}
 use Rattle.promises.proofs.Answers.{BlockAnswer, RecordingAnswer, ForgetAnswer, CopyAnswer, CountAnswer, read_block_answers, read_recording_answers, forget_key_answers, copy_out_answers, totals_answers}
-use Rattle.promises.proofs.ServiceAnswers.{ForgetServiceAnswer, CopyServiceAnswer, forget_service_answers, copy_service_answers}
-use Rattle.promises.proofs.Writing.{WriteAnswer, LoadAnswer, write_listing_answers, write_confirmed_answers, write_columns_answers, write_totals_answers, write_sheet_answers, write_air_answers, write_service_listing_answers, write_services_answers, write_output_answers, load_sheet_answers}
+use Rattle.promises.proofs.Writing.{WriteAnswer, LoadAnswer, write_listing_answers, write_confirmed_answers, write_columns_answers, write_totals_answers, write_sheet_answers, write_air_answers, write_output_answers, load_sheet_answers}
 -- what a refusal leaves: of 2 to 6 everything but the open lists and the count, of every other everything; loading hands back the empty table; and
 -- the place that a block's answer gives: that of the first fault within the class answered, or 0
 pub use Rattle.promises.proofs.Answers.{read_block_refused, read_block_place, read_block_no_place, read_recording_refused, forget_key_refused, copy_out_refused}
-pub use Rattle.promises.proofs.ServiceAnswers.{forget_service_refused, copy_service_refused}
 pub use Rattle.promises.proofs.Buffers.{write_refused}
-pub use Rattle.promises.proofs.ServiceAnswers.{ForgetServiceAnswer, CopyServiceAnswer, forget_service_answers, copy_service_answers}
-use Rattle.promises.proofs.Writing.{load_sheet_refused}
+pub use Rattle.promises.proofs.Writing.{load_sheet_refused}
 -- one answer
-pub use Rattle.promises.proofs.Single.{read_block_single, read_recording_single, forget_key_single, copy_out_single, forget_service_single, copy_service_single, totals_single, write_single, load_sheet_single}
+pub use Rattle.promises.proofs.Single.{read_block_single, read_recording_single, forget_key_single, copy_out_single, totals_single, write_single, load_sheet_single}
 
 -- every call ends with an answer of the list
 module _ {M : Type 1} where
-  pub read_block_ends : Promised read-block.ended read-block.Symbol.routine (λ κs a r z. BlockAnswer a.0 a.1.0.now r) M
-  read_block_ends = promised_so read-block.ended _ _ _ (λ κs a r z. read_block_answers a.0 a.1.0.now r) Proved.read_block_proved
+  pub read_block_ends : Promised read_block_law.ended read_block_law.Symbol.routine (λ κs a r z. BlockAnswer a.0 a.1.0.now r) M
+  read_block_ends = promised_so read_block_law.ended _ _ _ (λ κs a r z. read_block_answers a.0 a.1.0.now r) Proved.read_block_proved
 
   pub read_recording_ends : Promised read-recording.ended read-recording.Symbol.routine (λ κs a r z. RecordingAnswer a.0 a.1.0.now r) M
   read_recording_ends = promised_so read-recording.ended _ _ _ (λ κs a r z. read_recording_answers a.0 a.1.0.now r) Proved.read_recording_proved
@@ -65,16 +56,6 @@ module _ {M : Type 1} where
   copy_out_ends =
       promised_so copy-out.ended _ _ _
       (λ κs a r z. copy_out_answers a.0 a.1.0 a.1.1.0.now a.1.1.1.0.now r z.1.1.0.now z.1.1.1.0.now) Proved.copy_out_proved
-
-  pub forget_service_ends : Promised forget-service.ended forget-service.Symbol.routine (λ κs a r z. ForgetServiceAnswer a.0 a.1.0 a.1.1.0 a.1.1.1.0 r) M
-  forget_service_ends = promised_so forget-service.ended _ _ _ (λ κs a r z. forget_service_answers a.0 a.1.0 a.1.1.0 a.1.1.1.0 r) Proved.forget_service_proved
-
-  -- the buffer before, the answer, the buffer after
-  pub copy_service_ends : Promised copy-service.ended copy-service.Symbol.routine
-      (λ κs a r z. CopyServiceAnswer a.0 a.1.0 a.1.1.0 a.1.1.1.0 a.1.1.1.1.0.now r z.1.1.1.1.0.now) M
-  copy_service_ends =
-      promised_so copy-service.ended _ _ _
-      (λ κs a r z. copy_service_answers a.0 a.1.0 a.1.1.0 a.1.1.1.0 a.1.1.1.1.0.now r z.1.1.1.1.0.now) Proved.copy_service_proved
 
   pub totals_ends : Promised totals.ended totals.Symbol.routine (λ κs a r z. CountAnswer a.0 r) M
   totals_ends = promised_so totals.ended _ _ _ (λ κs a r z. totals_answers a.0 r) Proved.totals_proved
@@ -101,12 +82,6 @@ module _ {M : Type 1} where
 
   pub write_air_ends : Promised write-air.ended write-air.Symbol.routine (λ κs a r z. WriteAnswer air a.0 a.1.0.now r z.1.0.now) M
   write_air_ends = promised_so write-air.ended _ _ _ (λ κs a r z. write_air_answers a.0 a.1.0.now r z.1.0.now) Proved.write_air_proved
-
-  pub write_service_listing_ends : Promised write-service-listing.ended write-service-listing.Symbol.routine (λ κs a r z. WriteAnswer service_listing a.0 a.1.0.now r z.1.0.now) M
-  write_service_listing_ends = promised_so write-service-listing.ended _ _ _ (λ κs a r z. write_service_listing_answers a.0 a.1.0.now r z.1.0.now) Proved.write_service_listing_proved
-
-  pub write_services_ends : Promised write-services.ended write-services.Symbol.routine (λ κs a r z. WriteAnswer service_air a.0 a.1.0.now r z.1.0.now) M
-  write_services_ends = promised_so write-services.ended _ _ _ (λ κs a r z. write_services_answers a.0 a.1.0.now r z.1.0.now) Proved.write_services_proved
 
   pub write_output_ends : Promised write-output.ended write-output.Symbol.routine
       (λ κs a r z. WriteAnswer (output_of a.0 a.1.1.0) a.1.0 a.1.1.1.0.now r z.1.1.1.0.now) M

@@ -1,16 +1,12 @@
--- A caller has exactly what the rules say of the blocks and forgettings so far, and what is written reads back to the same sets, and the same
--- services (document 00, demand 2). Below, of calls of read_block, forget_key and forget_service, of both families, in order: from any table that meets the table rules; the totals then; the
+-- A caller has exactly what the rules say of the blocks and forgettings so far, and what is written reads back to the same sets (document
+-- 00, demand 2). Below, of calls of read_block and forget_key, in order: from any table that meets the table rules; the totals then; the
 -- numbers of blocks, and the count; from the empty one; that there are such calls. The rest is handed on from where it is proved.
 use Prim.Native.Nat.{ℕ, ◌+◌, min}
 use mathlib.Core.Path.{◌≡◌, refl, sym, ap, ap₂, ◌∙◌}
-use mathlib.Core.List.{List, [], ◌∷◌, map}
-use Rattle.rules.specs.Field.{Field}
-use Rattle.rules.specs.Family.{steps}
-use Rattle.rules.specs.Services.{ServiceField, services, told}
-use Rattle.rules.specs.Collecting.{linkage, IdSet, Content, nothing, next_block, said, most_blocks}
-use Rattle.rules.specs.Outcomes.{number_of, Carried, linking_in, services_in, taken, verdict, Answer, read_block}
-use Rattle.rules.proofs.LinkageLaws.{answer_taken}
-use Rattle.promises.specs.Demand3.{Operation, block, forgetting, forgetting_service, after_one, after_all}
+use mathlib.Core.List.{List, [], ◌∷◌}
+use Rattle.rules.specs.Collecting.{IdSet, Content, nothing, most_blocks}
+use Rattle.rules.specs.Outcomes.{number_of, read_block}
+use Rattle.promises.specs.Demand3.{Operation, block, forgetting, after_one}
 use Rattle.promises.specs.Numbers.{blocks_in, LastConfirmed}
 use Rattle.rules.proofs.Basics.{Every}
 use Rattle.rules.proofs.TableRules.{content_meets, nothing_meets}
@@ -18,19 +14,16 @@ use Rattle.table.specs.declared.Table.{Table}
 use Rattle.table.specs.declared.Copied.{Copied}
 use Rattle.table.specs.Stored.{store_table, Stored, stored}
 use Rattle.table.specs.Answers.{forgotten_as}
-use Rattle.found.specs.Answers as Found
 use Rattle.reading.specs.Runs.{run_as}
-use Rattle.promises.proofs.Contracts.{ReadsBlock, Forgets, ForgetsService, CopiesOut}
+use Rattle.promises.proofs.Contracts.{ReadsBlock, Forgets, CopiesOut}
 use Rattle.promises.proofs.Answers.{Stores}
-use Rattle.promises.proofs.Calls.{Reply, Calls, ended, reads, forgets, forgets_service, OfBytes, replies_to}
-use Rattle.promises.proofs.CallLaws.{read_call, forget_call, forget_service_call}
+use Rattle.promises.proofs.Calls.{Reply, Calls, ended, reads, forgets, OfBytes, after_all, replies_to}
+use Rattle.promises.proofs.CallLaws.{read_call, forget_call}
 use Rattle.promises.proofs.Numbers.{count_is, copied_confirmed}
 -- what is handed back meets the table rules, in its one stored form
-pub use Rattle.promises.proofs.Kept.{read_block_keeps, read_recording_keeps, forget_key_keeps, forget_service_keeps, load_sheet_meets, empty_meets}
+pub use Rattle.promises.proofs.Kept.{read_block_keeps, read_recording_keeps, forget_key_keeps, load_sheet_meets, empty_meets}
 -- what is written for air, read twice into an empty table; what is written as a sheet, loaded, and what is loaded, written
 pub use Rattle.promises.proofs.AirWritten.{write_air_shows, write_air_shows_twice_over, write_air_reads_back}
--- services written for air, read twice into an empty table (document 02, R-4)
-pub use Rattle.promises.proofs.ServicesWritten.{write_services_shows, write_services_shows_twice_over, write_services_reads_back, write_services_taken}
 pub use Rattle.promises.proofs.SheetWritten.{write_sheet_loads, load_sheet_writes}
 -- the totals of what is handed back are the sums over its sets; a wrong figure is 9 (document 02, R-7)
 pub use Rattle.promises.proofs.Totals.{RightTotals, stored_totals, read_block_totals, read_recording_totals, forget_key_totals, load_sheet_totals, wrong_totals}
@@ -52,10 +45,6 @@ calls_hold c s b (reads {fib} r x xs) =
 calls_hold c s b (forgets {k} r x xs) =
     let one = forget_call c k r s x in
     let rest = calls_hold (after_one c (forgetting k)) one.0 b.1 xs in
-    (rest.0, ap₂ ◌∷◌ one.1 rest.1)
-calls_hold c s b (forgets_service {oe} {pd} {n} r x xs) =
-    let one = forget_service_call c oe pd n r s x in
-    let rest = calls_hold (after_one c (forgetting_service oe pd n)) one.0 b.1 xs in
     (rest.0, ap₂ ◌∷◌ one.1 rest.1)
 
 -- So the totals of the table in which they end are the sums over its sets.
@@ -96,18 +85,3 @@ calls_exist {t} c (forgetting k ∷ os) s b =
     let x : Forgets t k (forgotten_as k c) = stored c s.0 s.1 refl in
     let one = forget_call c k (forgotten_as k c) s x in
     rw (← one.1) (forgets (forgotten_as k c) x (calls_exist (after_one c (forgetting k)) os one.0 b.1))
-calls_exist {t} c (forgetting_service oe pd n ∷ os) s b =
-    let x : ForgetsService t oe pd n (Found.forgotten_as oe pd n c) = stored c s.0 s.1 refl in
-    let one = forget_service_call c oe pd n (Found.forgotten_as oe pd n c) s x in
-    rw (← one.1) (forgets_service (Found.forgotten_as oe pd n c) x (calls_exist (after_one c (forgetting_service oe pd n)) os one.0 b.1))
-
--- A block of one family's fields alone leaves the other as it is (document 02, R-4).
-pub services_stay : (c : Content) (fib : List ℕ) (fs : List Carried) → verdict fib ≡ taken fs → services_in fs ≡ [] → (read_block c fib).left.services ≡ c.services
-unfolding steps
-services_stay c fib fs v e =
-    ap (λ (a : Answer). a.left.services) (answer_taken c fib fs v) ∙ ap (λ (gs : List ServiceField). (steps services c.services (map told gs)).0) e
-
-pub sets_stay : (c : Content) (fib : List ℕ) (fs : List Carried) → verdict fib ≡ taken fs → linking_in fs ≡ [] → (read_block c fib).left.sets ≡ c.sets
-unfolding steps
-sets_stay c fib fs v e =
-    ap (λ (a : Answer). a.left.sets) (answer_taken c fib fs v) ∙ ap (λ (gs : List Field). (steps linkage c.sets (map (said (next_block c.blocks)) gs)).0) e

@@ -5,11 +5,9 @@ use mathlib.Core.Path.{◌≡◌, ap}
 use mathlib.Core.List.{List}
 use lib.ListN.{get_or}
 use Rattle.rules.specs.Collecting.{nothing}
-use Rattle.rules.specs.Outcomes.{read_block, read_recording, forgotten, forgotten_service}
+use Rattle.rules.specs.Outcomes.{read_block, read_recording, forgotten}
 use Rattle.rules.proofs.TableRules.{nothing_meets}
 use Rattle.rules.proofs.LinkageLaws.{block_keeps, recording_keeps, forget_keeps}
-use Rattle.rules.proofs.LinkageLaws.{forget_service_keeps as forget-service-keeps'}
-use Rattle.found.specs.Answers as Found
 use Rattle.layout.proofs.Laws.{load_meets}
 use Rattle.table.specs.declared.Table.{Table}
 use Rattle.table.specs.declared.Forgotten.{Forgotten}
@@ -20,7 +18,7 @@ use Rattle.reading.specs.declared.Recorded.{Recorded}
 use Rattle.reading.specs.Runs.{run_as, recorded_as}
 use Rattle.sheet.specs.declared.Loaded.{Loaded}
 use Rattle.sheet.specs.Loading.{Loads}
-use Rattle.promises.proofs.Contracts.{ReadsBlock, ReadsRecording, Forgets, ForgetsService}
+use Rattle.promises.proofs.Contracts.{ReadsBlock, ReadsRecording, Forgets}
 
 pub read_block_keeps : (t : Table) (fib : List ℕ) (r : Answer) → ((i : ℕ) → get_or fib i 0 < 256) → Stored t → ReadsBlock t fib r → Stored r.table
 unfolding Stored run_as
@@ -36,11 +34,6 @@ pub forget_key_keeps : (t : Table) (k : ℕ) (r : Forgotten) → Stored t → Fo
 unfolding Stored forgotten_as
 forget_key_keeps t k r s (stored c f p a) = (forgotten k c, forget_keeps k c f, ap (λ (x : Forgotten). x.table) a)
 forget_key_keeps t k r s (not_stored n a) = absurd (n s)
-
-pub forget_service_keeps : (t : Table) (oe pd n : ℕ) (r : Forgotten) → Stored t → ForgetsService t oe pd n r → Stored r.table
-unfolding Stored Found.forgotten_as
-forget_service_keeps t oe pd n r s (stored c f p a) = (forgotten_service oe pd n c, forget-service-keeps' oe pd n c f, ap (λ (x : Forgotten). x.table) a)
-forget_service_keeps t oe pd n r s (not_stored m a) = absurd (m s)
 
 -- a loaded table meets them, whatever the bytes
 pub load_sheet_meets : (bytes : List ℕ) (r : Loaded) → Loads bytes r → Stored r.table

@@ -11,16 +11,16 @@ use lib.ListN.{length, replicate}
 use Rattle.rules.specs.declared.Note.{Note}
 use Rattle.rules.specs.declared.Note.TheVariants.{Full, ShownAndOpened}
 use Rattle.rules.specs.Block.{bits, bit, number, generator, shift, shifts, register, check_of, check_holds, after, walk, fig_at, figs}
-use Rattle.rules.specs.Field.{is_linking, width, big_endian, identifiers, short_field, list_field, list_bytes, field_at, key_of, pair, has_list, is_continuation, first_kind, start_pairs, pairs_of, named_by, wrong_value, empty_start}
+use Rattle.rules.specs.Field.{is_linking, width, big_endian, identifiers, short_field, list_field, list_bytes, field_at, fields_of, key_of, pair, has_list, is_continuation, first_kind, start_pairs, pairs_of, named_by, wrong_value, empty_start}
 use Rattle.rules.specs.Family.{Said, start, member, added, added_all, opening, extended, entry_with, started, continued, on_held, fresh, on_unheld, kept, effect, find, replace, insert, store, step, steps, closed, drop_open}
 use Rattle.rules.specs.Collecting.{same_pair, join_names, linkage, IdSet, nothing, brings, act_of, said, next_block, Shown, showing, shown_sets}
-use Rattle.rules.specs.Services.{is_services}
-use Rattle.rules.specs.Outcomes.{carries, step_as, carried_at, fields_of, wrong_carried, empty_carried, heard, heard_all, linking_in, services_in, joined, all_fields, some?, judge_fields, judge_figs, verdict, answer_to, read_block}
+use Rattle.rules.specs.Outcomes.{joined, all_fields, some?, judge_fields, judge_figs, verdict, answer_to, read_block}
 use Rattle.pieces.specs.Air.{block_of}
 use Rattle.rules.specs.Receptions.{Shows, ShowsIn, Op, takes, refuses, after_op}
-use Rattle.promises.specs.Demand3.{Operation, block, after_one, after_all, carried_in, carried_by, fields_at, Worse, over, same, spoilt, is_there, with_seen, said_to, own_at, own_before, ShowsOwn, ShowsTo, linkage_sees, ShowsAt}
+use Rattle.promises.specs.Demand3.{Operation, block, after_one, fields_in, said_by, Worse, over, same, spoilt, ShowsAt}
 use Rattle.rules.proofs.Runs.{run}
-use Rattle.promises.proofs.Better.{set_single}
+use Rattle.promises.proofs.Better.{shown_single}
+use Rattle.promises.proofs.Calls.{after_all}
 
 -- a set of DAB services
 unfoldable pub dabs : List ℕ → IdSet
@@ -63,17 +63,17 @@ more_block x = block_of (6 ∷ 134 ∷ 224 ∷ 4 ∷ 1 ∷ 0 ∷ x ∷ [])
 
 -- start, continuation, start; nothing arrives in place of the continuation: half a list comes to be shown
 pub half_is_shown : ShowsAt nothing (block (start_block 1) ∷ block [] ∷ block (start_block 1) ∷ []) 2 0 (record { key = 0x2004; on = true; set = dabs (1 ∷ []) })
-unfolding ShowsAt ShowsIn ShowsTo ShowsOwn fields_at carried_by carried_in said_to with_seen own_at own_before is_there linkage_sees start_block dabs block_of bits bit number generator shift shifts register check_of check_holds after walk fig_at figs is_linking width big_endian identifiers short_field list_field list_bytes field_at is_services carries step_as carried_at fields_of wrong_carried empty_carried heard heard_all linking_in services_in key_of pair has_list is_continuation first_kind start_pairs pairs_of named_by wrong_value empty_start member added added_all opening extended entry_with started continued on_held fresh on_unheld kept effect find replace insert store step steps closed drop_open same_pair join_names brings act_of said next_block joined all_fields some? judge_fields judge_figs verdict answer_to read_block after_one mathlib.Core.Bool.xor mathlib.Core.List.zip_with
-half_is_shown = (refl, record { noted = refl; draft = some (dabs (1 ∷ [])); found = refl })
+unfolding ShowsAt ShowsIn said_by fields_in start_block dabs block_of bits bit number generator shift shifts register check_of check_holds after walk fig_at figs is_linking width big_endian identifiers short_field list_field list_bytes field_at fields_of key_of pair has_list is_continuation first_kind start_pairs pairs_of named_by wrong_value empty_start member added added_all opening extended entry_with started continued on_held fresh on_unheld kept effect find replace insert store step steps closed drop_open same_pair join_names brings act_of said next_block joined all_fields some? judge_fields judge_figs verdict answer_to read_block after_one mathlib.Core.Bool.xor mathlib.Core.List.zip_with
+half_is_shown = record { noted = refl; draft = some (dabs (1 ∷ [])); found = refl }
 
 pub whole_is_shown : ShowsAt nothing (block (start_block 1) ∷ block (more_block 2) ∷ block (start_block 1) ∷ []) 2 0 (record { key = 0x2004; on = true; set = dabs (1 ∷ 2 ∷ []) })
-unfolding ShowsAt ShowsIn ShowsTo ShowsOwn fields_at carried_by carried_in said_to with_seen own_at own_before is_there linkage_sees start_block more_block dabs block_of bits bit number generator shift shifts register check_of check_holds after walk fig_at figs is_linking width big_endian identifiers short_field list_field list_bytes field_at is_services carries step_as carried_at fields_of wrong_carried empty_carried heard heard_all linking_in services_in key_of pair has_list is_continuation first_kind start_pairs pairs_of named_by wrong_value empty_start member added added_all opening extended entry_with started continued on_held fresh on_unheld kept effect find replace insert store step steps closed drop_open same_pair join_names brings act_of said next_block joined all_fields some? judge_fields judge_figs verdict answer_to read_block after_one mathlib.Core.Bool.xor mathlib.Core.List.zip_with
-whole_is_shown = (refl, record { noted = refl; draft = some (dabs (1 ∷ [])); found = refl })
+unfolding ShowsAt ShowsIn said_by fields_in start_block more_block dabs block_of bits bit number generator shift shifts register check_of check_holds after walk fig_at figs is_linking width big_endian identifiers short_field list_field list_bytes field_at fields_of key_of pair has_list is_continuation first_kind start_pairs pairs_of named_by wrong_value empty_start member added added_all opening extended entry_with started continued on_held fresh on_unheld kept effect find replace insert store step steps closed drop_open same_pair join_names brings act_of said next_block joined all_fields some? judge_fields judge_figs verdict answer_to read_block after_one mathlib.Core.Bool.xor mathlib.Core.List.zip_with
+whole_is_shown = record { noted = refl; draft = some (dabs (1 ∷ [])); found = refl }
 
 pub half_is_not : ShowsAt nothing (block (start_block 1) ∷ block (more_block 2) ∷ block (start_block 1) ∷ []) 2 0 (record { key = 0x2004; on = true; set = dabs (1 ∷ []) }) → ⊥
 unfolding dabs
 half_is_not sh =
-    let e = set_single nothing (block (start_block 1) ∷ block (more_block 2) ∷ block (start_block 1) ∷ []) 2 0 _ _ sh whole_is_shown in
+    let e = shown_single nothing (block (start_block 1) ∷ block (more_block 2) ∷ block (start_block 1) ∷ []) 2 0 _ _ sh whole_is_shown in
     let n : ◌≡◌ {A = ℕ} 1 2 = ap (λ (s : Shown). length s.set.items) e in
     omega arith
 
@@ -92,9 +92,9 @@ is_worse = same _ (same _ (spoilt _ _ refl refl refl (same _ over)))
 
 -- the better one then shows the second set, the worse one still the first
 pub better_shows : shown_sets (after_all nothing better).sets ≡ record { key = 0x2004; on = true; set = dabs (2 ∷ []) } ∷ []
-unfolding after_all showing shown_sets start_block dabs block_of bits bit number generator shift shifts register check_of check_holds after walk fig_at figs is_linking width big_endian identifiers short_field list_field list_bytes field_at is_services carries step_as carried_at fields_of wrong_carried empty_carried heard heard_all linking_in services_in key_of pair has_list is_continuation first_kind start_pairs pairs_of named_by wrong_value empty_start member added added_all opening extended entry_with started continued on_held fresh on_unheld kept effect find replace insert store step steps closed drop_open same_pair join_names brings act_of said next_block joined all_fields some? judge_fields judge_figs verdict answer_to read_block after_one mathlib.Core.Bool.xor mathlib.Core.List.zip_with
+unfolding after_all showing shown_sets start_block dabs block_of bits bit number generator shift shifts register check_of check_holds after walk fig_at figs is_linking width big_endian identifiers short_field list_field list_bytes field_at fields_of key_of pair has_list is_continuation first_kind start_pairs pairs_of named_by wrong_value empty_start member added added_all opening extended entry_with started continued on_held fresh on_unheld kept effect find replace insert store step steps closed drop_open same_pair join_names brings act_of said next_block joined all_fields some? judge_fields judge_figs verdict answer_to read_block after_one mathlib.Core.Bool.xor mathlib.Core.List.zip_with
 better_shows = refl
 
 pub worse_shows : shown_sets (after_all nothing worse).sets ≡ record { key = 0x2004; on = true; set = dabs (1 ∷ []) } ∷ []
-unfolding after_all showing shown_sets start_block dabs block_of bits bit number generator shift shifts register check_of check_holds after walk fig_at figs is_linking width big_endian identifiers short_field list_field list_bytes field_at is_services carries step_as carried_at fields_of wrong_carried empty_carried heard heard_all linking_in services_in key_of pair has_list is_continuation first_kind start_pairs pairs_of named_by wrong_value empty_start member added added_all opening extended entry_with started continued on_held fresh on_unheld kept effect find replace insert store step steps closed drop_open same_pair join_names brings act_of said next_block joined all_fields some? judge_fields judge_figs verdict answer_to read_block after_one mathlib.Core.Bool.xor mathlib.Core.List.zip_with
+unfolding after_all showing shown_sets start_block dabs block_of bits bit number generator shift shifts register check_of check_holds after walk fig_at figs is_linking width big_endian identifiers short_field list_field list_bytes field_at fields_of key_of pair has_list is_continuation first_kind start_pairs pairs_of named_by wrong_value empty_start member added added_all opening extended entry_with started continued on_held fresh on_unheld kept effect find replace insert store step steps closed drop_open same_pair join_names brings act_of said next_block joined all_fields some? judge_fields judge_figs verdict answer_to read_block after_one mathlib.Core.Bool.xor mathlib.Core.List.zip_with
 worse_shows = refl

@@ -5,22 +5,22 @@ use Prim.Native.Nat.{ℕ, zero, suc, ◌+◌, ◌≤◌, ◌<◌, min}
 use native.Mathlib.Omega.{arith}
 use mathlib.Core.Path.{◌≡◌, refl, sym, ap, ◌∙◌, subst}
 use mathlib.Core.Bool.{Bool, true, ◌||◌}
-use mathlib.Core.List.{List, [], ◌∷◌}
-use mathlib.Core.Logic.{◌⊎◌, inl, inr}
+use mathlib.Core.List.{List, [], ◌∷◌, map}
 use mathlib.Core.Option.{Option, none, some}
 use lib.ListN.{length, get_or, take, get_elem?}
 use lib.Dec.{leb, ltb, eqb}
 use borrow.Author.Tests.{leb-true}
 use Rattle.rules.specs.declared.Outcome.{Outcome}
 use Rattle.rules.specs.Block.{bit}
+use Rattle.rules.specs.Field.{Field}
 use Rattle.rules.specs.Family.{Said, find}
-use Rattle.rules.specs.Receptions.{said_in, ShowsRun}
+use Rattle.rules.specs.Receptions.{said_in}
 use Rattle.rules.specs.Collecting.{linkage, IdSet, Held, Content, nothing, next_block, said, meets, most_keys, most_blocks}
 use Rattle.rules.specs.Outcomes as Outcomes
-use Rattle.rules.specs.Outcomes.{number_of, Carried, linking, service, Verdict, taken, refused, no_block, verdict, not_copied, copy_set, copy_held, copy_out}
-use Rattle.rules.specs.Numbers.{field_at, Later, LastShown}
+use Rattle.rules.specs.Outcomes.{number_of, Verdict, taken, refused, no_block, verdict, not_copied, copy_set, copy_held, copy_out}
+use Rattle.rules.specs.Numbers.{field_at, LastShown}
 use Rattle.rules.specs.Numbers as Over
-use Rattle.promises.specs.Demand3.{Operation, block, forgetting, forgetting_service, after_one, after_all, fields_at, Worse, over, same, spoilt, with_seen, said_to, own_at, own_before, linkage_sees, linkage_wish, sets, ShowsAt}
+use Rattle.promises.specs.Demand3.{Operation, block, forgetting, after_one, Worse, over, same, spoilt, ShowsAt}
 use Rattle.promises.specs.Numbers.{is_block, blocks_in, number_at, LastConfirmed, earlier, shown}
 use Rattle.rules.proofs.Basics.{cases_bool, cases-option, none_some, and_left, and_right}
 use Rattle.rules.proofs.TableRules.{lawful, table_meets_law, content_meets, sets_meet_law}
@@ -37,9 +37,10 @@ use Rattle.sheet.specs.declared.Loaded.{Loaded}
 use Rattle.sheet.specs.Loading.{Loads}
 use Rattle.promises.proofs.Contracts.{CopiesOut}
 use Rattle.promises.proofs.Answers.{Stores}
-use Rattle.promises.proofs.Views.{wish_op, op_in, op_of, ops_of, said_op, short_verdict, count_after, after_count, shows_run, run_shows, after_run, before_less, own_back}
-use Rattle.promises.proofs.Better.{sets_fair}
+use Rattle.promises.proofs.Better.{op_in, op_of, short_verdict, count_after, after_count, ops_of, shows_run}
+use Rattle.promises.proofs.Calls.{after_all}
 use Rattle.promises.proofs.Kept.{load_sheet_meets}
+use Rattle.promises.proofs.Receptions.{after_run}
 
 -- ---- the count
 
@@ -61,30 +62,28 @@ count_is c (o ∷ os) h =
 
 -- ---- a field's number
 
-said_number : (n : ℕ) (fs : List Carried) (j : ℕ) (f : Said linkage) → get_elem? (said_to linkage sets n fs) j ≡ some f → f.stamp ≡ n
-unfolding said said_to with_seen linkage_sees
+said_number : (n : ℕ) (fs : List Field) (j : ℕ) (f : Said linkage) → get_elem? (map (said n) fs) j ≡ some f → f.stamp ≡ n
+unfolding said
 said_number n [] j f h = none_some refl h
-said_number n (linking g ∷ fs) zero f h = let e : said n g ≡ f = cc in sym (ap (λ (x : Said linkage). x.stamp) e)
-said_number n (linking g ∷ fs) (suc j) f h = said_number n fs j f h
-said_number n (service g ∷ fs) j f h = said_number n fs j f h
+said_number n (g ∷ fs) zero f h = let e : said n g ≡ f = cc in sym (ap (λ (x : Said linkage). x.stamp) e)
+said_number n (g ∷ fs) (suc j) f h = said_number n fs j f h
 
-in_block : (n j : ℕ) (f : Said linkage) (v : Verdict) → get_elem? (said_in linkage (op_in linkage sets n v)) j ≡ some f → f.stamp ≡ n
+in_block : (n j : ℕ) (f : Said linkage) (v : Verdict) → get_elem? (said_in linkage (op_in n v)) j ≡ some f → f.stamp ≡ n
 unfolding op_in said_in
 in_block n j f (taken fs) h = said_number n fs j f h
 in_block n j f (refused o p) h = none_some refl h
 in_block n j f no_block h = none_some refl h
 
 -- of an operation: it is a block of 32 bytes, and has its number
-op_number : (n : ℕ) (o : Operation) (j : ℕ) (f : Said linkage) → get_elem? (said_in linkage (op_of linkage sets n o)) j ≡ some f → (f.stamp ≡ n) × (is_block o ≡ true)
-unfolding op_of op_in said_in is_block wish_op linkage_wish
+op_number : (n : ℕ) (o : Operation) (j : ℕ) (f : Said linkage) → get_elem? (said_in linkage (op_of n o)) j ≡ some f → (f.stamp ≡ n) × (is_block o ≡ true)
+unfolding op_of op_in said_in is_block
 op_number n (block fib) j f h =
     cases_bool (eqb (length fib) 32)
     (λ l. (in_block n j f (verdict fib) h, l))
-    (λ l. none_some (ap (λ (v : Verdict). get_elem? (said_in linkage (op_in linkage sets n v)) j) (short_verdict fib l)) h)
+    (λ l. none_some (ap (λ (v : Verdict). get_elem? (said_in linkage (op_in n v)) j) (short_verdict fib l)) h)
 op_number n (forgetting k) j f h = none_some refl h
-op_number n (forgetting_service oe pd m) j f h = none_some refl h
 
-field_number : (n : ℕ) (ops : List Operation) (i j : ℕ) (f : Said linkage) → n ≤ most_blocks → field_at linkage (ops_of linkage sets n ops) i j ≡ some f → f.stamp ≡ number_at n ops i
+field_number : (n : ℕ) (ops : List Operation) (i j : ℕ) (f : Said linkage) → n ≤ most_blocks → field_at linkage (ops_of n ops) i j ≡ some f → f.stamp ≡ number_at n ops i
 unfolding field_at ops_of number_at blocks_in
 field_number n [] i j f h e = none_some refl e
 field_number n (o ∷ os) zero j f h e =
@@ -98,40 +97,17 @@ field_number n (o ∷ os) (suc i) j f h e =
 
 -- ---- the number of a shown set
 
--- a field of the family's reception is among its own fields of that operation
-field_said : (n : ℕ) (ops : List Operation) (i q : ℕ) (f : Said linkage) → field_at linkage (ops_of linkage sets n ops) i q ≡ some f
-    → (m : ℕ) × (get_elem? (said_to linkage sets m (fields_at ops i)) q ≡ some f)
-unfolding field_at ops_of fields_at
-field_said n [] i q f e = none_some refl e
-field_said n (o ∷ os) zero q f e = (next_block n, ap (λ (fs : List (Said linkage)). get_elem? fs q) (said_op linkage sets (next_block n) o) ∙ e)
-field_said n (o ∷ os) (suc i) q f e = field_said (count_after n o) os i q f e
-
--- the order of fields among all is that among its own
-later_own : (ops : List Operation) (i j i' j' : ℕ) → own_at linkage sets (fields_at ops i) j ≡ true → Later linkage i j i' j'
-    → Later linkage i (own_before linkage sets (fields_at ops i) j) i' (own_before linkage sets (fields_at ops i') j')
-later_own ops i j i' j' o (inl h) = inl h
-later_own ops i j i' j' o (inr (e, h)) =
-    inr (e, subst (λ (k : ℕ). own_before linkage sets (fields_at ops i) j < own_before linkage sets (fields_at ops k) j') e (before_less linkage sets lawful sets_fair (fields_at ops i) j j' h o))
-
 pub last_confirmed : (c : Content) (ops : List Operation) (k : ℕ) (x : Held) (l : IdSet) → meets c ≡ true → find linkage k (after_all c ops).sets ≡ some x
     → x.shown ≡ some l → LastConfirmed c ops k l x.stamp
-unfolding ShowsAt
 last_confirmed c ops k x l m h g =
-    from (last_shown linkage lawful c.sets (ops_of linkage sets c.blocks ops) k x l ((table_meets_law c.sets).0 (sets_meet_law c m)).ascend
-    (rw (after_run linkage sets lawful sets_fair c ops) at h) g)
+    from (last_shown linkage lawful c.sets (ops_of c.blocks ops) k x l ((table_meets_law c.sets).0 (sets_meet_law c m)).ascend (rw (after_run c ops) at h) g)
   where
-    from : LastShown linkage c.sets (ops_of linkage sets c.blocks ops) k l x.stamp → LastConfirmed c ops k l x.stamp
-    from (Over.earlier e a b p n) = earlier e a b p (λ i j on q sh. n i _ on q (shows_run linkage sets lawful sets_fair c ops i j k on q sh))
-    from (Over.shown i q on f sh at p n) =
-        let said = field_said c.blocks ops i q f at in
-        let place = own_back linkage sets lawful sets_fair said.0 (fields_at ops i) q f said.1 in
-        let j = place.0 in
-        shown i j on (run_shows linkage sets lawful sets_fair c ops i j k on l place.1
-        (subst (λ (r : ℕ). ShowsRun linkage c.sets (ops_of linkage sets c.blocks ops) i r k on l) (sym place.2) sh))
-        (sym p ∙ field_number c.blocks ops i q f ((content_meets c).0 m).most at)
-        (λ i' j' on' r late sh'. n i' _ on' r
-        (subst (λ (w : ℕ). Later linkage i w i' (own_before linkage sets (fields_at ops i') j')) place.2 (later_own ops i j i' j' place.1 late))
-        (shows_run linkage sets lawful sets_fair c ops i' j' k on' r sh'))
+    from : LastShown linkage c.sets (ops_of c.blocks ops) k l x.stamp → LastConfirmed c ops k l x.stamp
+    from (Over.earlier e a b p n) = earlier e a b p (λ i j on q sh. n i j on q (rw (shows_run c ops i j (record { key = k; on = on; set = q })) at sh))
+    from (Over.shown i j on f sh at p n) =
+        shown i j on (rw (shows_run c ops i j (record { key = k; on = on; set = l })) sh)
+        (sym p ∙ field_number c.blocks ops i j f ((content_meets c).0 m).most at)
+        (λ i' j' on' q late sh'. n i' j' on' q late (rw (shows_run c ops i' j' (record { key = k; on = on'; set = q })) at sh'))
 
 -- ---- what copy_out gives
 

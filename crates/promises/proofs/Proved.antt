@@ -14,14 +14,10 @@ use denote.Triple.Spec.{Meets, exits}
 use denote.Triple.Weaken.{weaken}
 use denote.Triple.Table.{run_framed}
 use Rattle.sheet.specs.Loading.{Loads}
-use Rattle.reading.proofs.read_block as read-block
+use Rattle.reading.proofs.read_block as read_block_law
 use Rattle.reading.proofs.read_recording as read-recording
 use Rattle.table.proofs.forget_key as forget_key
 use Rattle.table.proofs.copy_out as copy-out
-use Rattle.found.proofs.forget_service as forget-service
-use Rattle.found.proofs.copy_service as copy-service
-use Rattle.servicetext.proofs.write_service_listing as write-service-listing
-use Rattle.serviceair.proofs.write_services as write-services
 use Rattle.table.proofs.Table.totals as totals
 use Rattle.text.proofs.write_listing as write-listing
 use Rattle.text.proofs.write_confirmed as write-confirmed
@@ -31,7 +27,7 @@ use Rattle.sheet.proofs.write_sheet as write-sheet
 use Rattle.air.proofs.write_air as write-air
 use Rattle.sheet.proofs.load_sheet as load-sheet
 use Rattle.outputs.proofs.write_output as write-output
-use Rattle.promises.proofs.Contracts.{ReadsBlock, ReadsRecording, Forgets, CopiesOut, Counts, WritesListing, WritesConfirmed, WritesColumns, WritesTotals, WritesSheet, WritesAir, WritesOutput, ForgetsService, CopiesService, WritesServiceListing, WritesServices}
+use Rattle.promises.proofs.Contracts.{ReadsBlock, ReadsRecording, Forgets, CopiesOut, Counts, WritesListing, WritesConfirmed, WritesColumns, WritesTotals, WritesSheet, WritesAir, WritesOutput}
 
 -- this code, with nothing required of its caller, ends so that this holds of what it was passed, of what it returns and of its
 -- parameters at the end
@@ -56,8 +52,8 @@ promised_so e code P Q h p 𝓤 𝓛 𝓜 𝓡 =
     (𝓡.run code) (λ vs. fm→mono 𝓤 (𝓡.run code vs) (run_framed 𝓤 𝓛.H 𝓜 𝓡 code vs)) (p 𝓤 𝓛 𝓜 𝓡)
 
 pub read_block_proved : {M : Type 1}
-    → Promised read-block.ended read-block.Symbol.routine (λ κs a r z. ReadsBlock a.0 a.1.0.now r) M
-read_block_proved = read-block.Met.met
+    → Promised read_block_law.ended read_block_law.Symbol.routine (λ κs a r z. ReadsBlock a.0 a.1.0.now r) M
+read_block_proved = read_block_law.Met.met
 
 pub read_recording_proved : {M : Type 1}
     → Promised read-recording.ended read-recording.Symbol.routine (λ κs a r z. ReadsRecording a.0 a.1.0.now r) M
@@ -71,15 +67,6 @@ pub copy_out_proved : {M : Type 1}
     → Promised copy-out.ended copy-out.Symbol.routine
     (λ κs a r z. CopiesOut a.0 a.1.0 a.1.1.0.now a.1.1.1.0.now r z.1.1.0.now z.1.1.1.0.now) M
 copy_out_proved = copy-out.Met.met
-
-pub forget_service_proved : {M : Type 1}
-    → Promised forget-service.ended forget-service.Symbol.routine (λ κs a r z. ForgetsService a.0 a.1.0 a.1.1.0 a.1.1.1.0 r) M
-forget_service_proved = forget-service.Met.met
-
-pub copy_service_proved : {M : Type 1}
-    → Promised copy-service.ended copy-service.Symbol.routine
-    (λ κs a r z. CopiesService a.0 a.1.0 a.1.1.0 a.1.1.1.0 a.1.1.1.1.0.now r z.1.1.1.1.0.now) M
-copy_service_proved = copy-service.Met.met
 
 pub totals_proved : {M : Type 1} → Promised totals.ended totals.Symbol.routine (λ κs a r z. Counts a.0 r) M
 totals_proved = totals.Met.met
@@ -108,14 +95,6 @@ write_sheet_proved = write-sheet.Met.met
 pub write_air_proved : {M : Type 1}
     → Promised write-air.ended write-air.Symbol.routine (λ κs a r z. WritesAir a.0 a.1.0.now r z.1.0.now) M
 write_air_proved = write-air.Met.met
-
-pub write_service_listing_proved : {M : Type 1}
-    → Promised write-service-listing.ended write-service-listing.Symbol.routine (λ κs a r z. WritesServiceListing a.0 a.1.0.now r z.1.0.now) M
-write_service_listing_proved = write-service-listing.Met.met
-
-pub write_services_proved : {M : Type 1}
-    → Promised write-services.ended write-services.Symbol.routine (λ κs a r z. WritesServices a.0 a.1.0.now r z.1.0.now) M
-write_services_proved = write-services.Met.met
 
 pub write_output_proved : {M : Type 1}
     → Promised write-output.ended write-output.Symbol.routine

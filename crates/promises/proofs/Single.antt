@@ -7,7 +7,7 @@ use mathlib.Core.Bool.{Bool, true, false}
 use mathlib.Core.List.{List}
 use Rattle.rules.specs.declared.Outcome.TheVariants.{Done}
 use Rattle.rules.specs.Collecting.{Content}
-use Rattle.rules.specs.Outcomes.{read_block, copy_out, copy_service}
+use Rattle.rules.specs.Outcomes.{read_block, copy_out}
 use Rattle.rules.specs.Outcomes as Outcomes
 use Rattle.pieces.specs.Air.{air}
 use Rattle.out.specs.Writing.{written_to}
@@ -19,10 +19,6 @@ use Rattle.screen.specs.Screen.{totals_text}
 use Rattle.totals.specs.Totals.{totals_of}
 use Rattle.layout.proofs.Laws.{load_single}
 use Rattle.lists.specs.Stored.{Tested}
-use Rattle.found.specs.declared.CopiedService.{CopiedService}
-use Rattle.found.specs.Answers as Found
-use Rattle.servicetext.specs.ServiceListing.{service_listing}
-use Rattle.servicepieces.specs.ServiceAir.{service_air}
 use Rattle.table.specs.declared.Table.{Table}
 use Rattle.table.specs.declared.Forgotten.{Forgotten}
 use Rattle.table.specs.declared.Copied.{Copied}
@@ -41,7 +37,7 @@ use Rattle.sheet.specs.Loading.{Loads}
 use Rattle.columns.specs.Columns.{columns}
 use Rattle.outputs.specs.declared.Output.{Output}
 use Rattle.outputs.specs.Output.{output_of}
-use Rattle.promises.proofs.Contracts.{ReadsBlock, ReadsRecording, Forgets, CopiesOut, Counts, WritesListing, WritesConfirmed, WritesColumns, WritesTotals, WritesSheet, WritesAir, WritesOutput, ForgetsService, CopiesService, WritesServiceListing, WritesServices}
+use Rattle.promises.proofs.Contracts.{ReadsBlock, ReadsRecording, Forgets, CopiesOut, Counts, WritesListing, WritesConfirmed, WritesColumns, WritesTotals, WritesSheet, WritesAir, WritesOutput}
 
 -- a result that an equation says
 pub equal_single : {A : Type 0} {x y z : A} → x ≡ z → y ≡ z → x ≡ y
@@ -85,19 +81,6 @@ pub copy_out_single : (t : Table) (k : ℕ) (ns ks : List ℕ) (r q : Copied) (n
 copy_out_single t k ns ks r q nr kr nq kq a b =
     copied_apart r q nr kr nq kq (given_single t (copied_as r nr kr) (copied_as q nq kq) _ (λ c. copy_out k c ns ks) a b)
 
--- of a service
-pub forget_service_single : (t : Table) (oe pd n : ℕ) (r q : Forgotten) → ForgetsService t oe pd n r → ForgetsService t oe pd n q → r ≡ q
-forget_service_single t oe pd n r q a b = given_single t r q _ (Found.forgotten_as oe pd n) a b
-
-pub service_apart : (r q : CopiedService) (ms js : List ℕ) → Found.copied_as r ms ≡ Found.copied_as q js → (r ≡ q) × (ms ≡ js)
-unfolding Found.copied_as
-service_apart r q ms js e = (λ i. record { outcome = (e i).outcome; count = (e i).count }, ap (λ (x : Outcomes.CopiedService). x.ensembles) e)
-
-pub copy_service_single : (t : Table) (oe pd n : ℕ) (ns : List ℕ) (r q : CopiedService) (ms js : List ℕ)
-    → CopiesService t oe pd n ns r ms → CopiesService t oe pd n ns q js → (r ≡ q) × (ms ≡ js)
-copy_service_single t oe pd n ns r q ms js a b =
-    service_apart r q ms js (given_single t (Found.copied_as r ms) (Found.copied_as q js) _ (λ c. copy_service oe pd n c ns) a b)
-
 -- an answer and its buffer, taken apart
 written_apart : (r q : Written) (a b : List ℕ) → written_as r a ≡ written_as q b → (r ≡ q) × (a ≡ b)
 unfolding written_as
@@ -131,14 +114,6 @@ write_sheet_single = write_single sheet
 pub write_air_single : (t : Table) (old : List ℕ) (r q : Written) (new other : List ℕ)
     → WritesAir t old r new → WritesAir t old q other → (r ≡ q) × (new ≡ other)
 write_air_single = write_single air
-
-pub write_service_listing_single : (t : Table) (old : List ℕ) (r q : Written) (new other : List ℕ)
-    → WritesServiceListing t old r new → WritesServiceListing t old q other → (r ≡ q) × (new ≡ other)
-write_service_listing_single = write_single service_listing
-
-pub write_services_single : (t : Table) (old : List ℕ) (r q : Written) (new other : List ℕ)
-    → WritesServices t old r new → WritesServices t old q other → (r ≡ q) × (new ≡ other)
-write_services_single = write_single service_air
 
 pub write_output_single : (o : Output) (t : Table) (over : ℕ) (old : List ℕ) (r q : Written) (new other : List ℕ)
     → WritesOutput o t over old r new → WritesOutput o t over old q other → (r ≡ q) × (new ≡ other)

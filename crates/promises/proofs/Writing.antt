@@ -20,8 +20,6 @@ use Rattle.text.specs.Listing.{listing}
 use Rattle.text.specs.Confirmed.{confirmed_listing}
 use Rattle.screen.specs.Screen.{totals_text}
 use Rattle.rules.proofs.Basics.{cases_bool}
-use Rattle.servicetext.specs.ServiceListing.{service_listing}
-use Rattle.servicepieces.specs.ServiceAir.{service_air}
 use Rattle.table.specs.declared.Table.{Table}
 use Rattle.table.specs.Stored.{store_table, Stored, stored, not_stored}
 use Rattle.out.specs.declared.Written.{Written}
@@ -31,7 +29,7 @@ use Rattle.sheet.specs.Loading.{Loads}
 use Rattle.columns.specs.Columns.{columns}
 use Rattle.outputs.specs.declared.Output.{Output}
 use Rattle.outputs.specs.Output.{output_of}
-use Rattle.promises.proofs.Contracts.{WritesListing, WritesConfirmed, WritesColumns, WritesTotals, WritesSheet, WritesAir, WritesOutput, WritesServiceListing, WritesServices}
+use Rattle.promises.proofs.Contracts.{WritesListing, WritesConfirmed, WritesColumns, WritesTotals, WritesSheet, WritesAir, WritesOutput}
 
 -- the parts of an answer and its buffer
 pub written_is : (r : Written) (new : List ℕ) (o : Outcome) (n : ℕ) (b : List ℕ) → written_as r new ≡ record { outcome = o; size = n; buffer = b }
@@ -81,13 +79,6 @@ write_sheet_answers = write_answers sheet
 
 pub write_air_answers : (t : Table) (old : List ℕ) (r : Written) (new : List ℕ) → WritesAir t old r new → WriteAnswer air t old r new
 write_air_answers = write_answers air
-
-pub write_service_listing_answers : (t : Table) (old : List ℕ) (r : Written) (new : List ℕ)
-    → WritesServiceListing t old r new → WriteAnswer service_listing t old r new
-write_service_listing_answers = write_answers service_listing
-
-pub write_services_answers : (t : Table) (old : List ℕ) (r : Written) (new : List ℕ) → WritesServices t old r new → WriteAnswer service_air t old r new
-write_services_answers = write_answers service_air
 
 pub write_output_answers : (o : Output) (t : Table) (over : ℕ) (old : List ℕ) (r : Written) (new : List ℕ)
     → WritesOutput o t over old r new → WriteAnswer (output_of o over) t old r new

@@ -6,13 +6,12 @@ use Rattle.rules.specs.Block.{bit}
 use Rattle.rules.specs.Family.{find}
 use Rattle.rules.specs.Collecting.{linkage, IdSet, Held, Content, most_blocks}
 use Rattle.rules.specs.Numbers.{Later}
-use Rattle.promises.specs.Demand3.{Operation, block, forgetting, forgetting_service, ShowsAt}
+use Rattle.promises.specs.Demand3.{Operation, block, forgetting, ShowsAt}
 
 -- a block of 32 bytes, whether it is taken or refused
 unfoldable pub is_block : Operation → Bool
 is_block (block fib) = eqb (length fib) 32
 is_block (forgetting k) = false
-is_block (forgetting_service oe pd n) = false
 
 -- how many there are
 unfoldable pub blocks_in : List Operation → ℕ

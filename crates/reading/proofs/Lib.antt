@@ -2,7 +2,6 @@ pub mod HeldLaws
 pub mod StepLaws
 pub mod RunLaws
 pub mod Turns
-pub mod ServiceTurns
 pub mod RowLaws
 pub mod GatheredLaws
 pub mod HeldRows

@@ -17,12 +17,15 @@ use Rattle.rules.specs.declared.Outcome.{Outcome}
 use Rattle.rules.specs.declared.Outcome.TheVariants.{Done, NotABlock, CheckFails, WrongFig, WrongField, WrongValue, EmptyStart, NotHeld, ShortBuffer, WrongTable, NotASheet, NotShown, TooMuch, TooManyPieces, BadCode}
 use Rattle.rules.specs.declared.Note.{Note}
 use Rattle.rules.specs.declared.Note.TheVariants.{Opened}
-use Rattle.rules.specs.Collecting.{Content, meets}
+use Rattle.rules.specs.Field.{Field as FieldOf}
+use Rattle.rules.specs.Family.{step, steps, drop_open}
+use Rattle.rules.specs.Collecting.{linkage, Entries, Content, with_sets, after_block, said, meets}
 use Rattle.rules.specs.Block.{bit}
-use Rattle.rules.specs.Outcomes.{Carried, heard, heard_all, Verdict, taken, refused, is_refused, refused_of, refusals, verdict, Answer, read_block, read_blocks, is_full, without_room, roomless_blocks, read_recording, left_over, roomless}
+use Rattle.rules.specs.Outcomes.{Verdict, taken, refused, is_refused, refused_of, refusals, verdict, Answer, read_block, read_blocks, is_full, without_room, roomless_blocks, read_recording, left_over, roomless}
 use Rattle.rules.proofs.Basics.{Every, cases_bool, bit_small}
-use Rattle.rules.proofs.Taken.{GoodCarried, taken_carried}
-use Rattle.rules.proofs.LinkageLaws.{counting, heard_left_law, heard_keeps, dropped, counted_keeps, refused_keeps, refused_not_done, answer_heard, answer_refused, bytes_list, no_block_law}
+use Rattle.rules.proofs.Taken.{GoodField, taken_good}
+use Rattle.rules.proofs.TableRules.{Meets, table_meets_law, NumbersWithin, content_meets}
+use Rattle.rules.proofs.LinkageLaws.{meets_steps, within_steps, counted_keeps, refused_keeps, refused_not_done, answer_taken, answer_refused, bytes_list, no_block_law}
 use Rattle.rules.proofs.Arrays.{set_column}
 use Rattle.table.specs.declared.Table.{Table}
 use Rattle.table.specs.Stored.{store_table}
@@ -78,11 +81,11 @@ refused_done fib o p v = cases_bool (is_done o) (λ y. absurd (refused_not_done 
 abbrev spoken : Reply → List Note → Content → Ran
 spoken r ns c = record { answer = record { outcome = r.outcome; place = r.place; notes = ns; left = c }; full = r.full; refused = r.refused }
 
-unfoldable pub resumed : Reply → List Note → Content → List Carried → Ran
+unfoldable pub resumed : Reply → List Note → Content → List FieldOf → Ran
 resumed r ns c gs =
-    let s = heard_all c gs in
+    let s = steps linkage c.sets (map (said c.blocks) gs) in
     record {
-      answer = record { outcome = r.outcome; place = r.place; notes = ns ++ s.1; left = s.0 };
+      answer = record { outcome = r.outcome; place = r.place; notes = ns ++ s.1; left = with_sets c s.0 };
       full = r.full + without_room s.1;
       refused = r.refused;
     }
@@ -96,9 +99,9 @@ pub record Going (bytes : List ℕ) (t₀ t : Table) (reply : Reply) (spots : Sp
   pub now' : Content
   pub now_meets : meets now' ≡ true
   pub stored : t ≡ store_table now'
-  pub fields : List Carried
+  pub fields : List FieldOf
   pub placed : SpotsAre (take 32 (drop from bytes)) spots fields
-  pub good : Every GoodCarried fields
+  pub good : Every GoodField fields
   pub inside : 0 < length fields → from + 32 ≤ length bytes
   pub noted : List Note
   pub notes_are : reply.notes ≡ store_notes noted
@@ -113,7 +116,7 @@ placed_none : (fib : List ℕ) (spots : Spots) → spots.count ≡ 0 → SpotsAr
 placed_none fib spots z = record { count = z; few = omega arith; each = λ i h. absurd (not-suc-le-zero h) }
 
 resumed_none : (r : Reply) (ns : List Note) (c : Content) → resumed r ns c [] ≡ spoken r ns c
-unfolding resumed heard_all without_room
+unfolding resumed steps without_room
 resumed_none r ns c =
     ap₂ (λ (m : List Note) (k : ℕ). record { answer = record { outcome = r.outcome; place = r.place; notes = m; left = c }; full = k; refused = r.refused }) (append-nil ns) (add-zero r.full)
 
@@ -152,26 +155,34 @@ every_get P d [] i e h = absurd (not-suc-le-zero h)
 every_get P d (x ∷ xs) zero e h = e.0
 every_get P d (x ∷ xs) (suc i) e h = every_get P d xs i e.1 (le_of_suc-le-suc h)
 
-resumed_step : (r : Reply) (ns : List Note) (i : ℕ) (c c' : Content) (n : Note) (g : Carried) (gs : List Carried)
-    → heard c g ≡ (c', n) → resumed r ns c (g ∷ gs) ≡ resumed (reply_with r i n) (ns ++ n ∷ []) c' gs
-unfolding resumed reply_with heard_all without_room
+resumed_step : (r : Reply) (ns : List Note) (i : ℕ) (c : Content) (c' : Entries) (n : Note) (g : FieldOf) (gs : List FieldOf)
+    → step linkage c.sets (said c.blocks g) ≡ (c', n) → resumed r ns c (g ∷ gs) ≡ resumed (reply_with r i n) (ns ++ n ∷ []) (with_sets c c') gs
+unfolding resumed reply_with steps without_room
 resumed_step r ns i c c' n g gs e =
-    let s = heard_all c' gs in
+    let s = steps linkage c' (map (said c.blocks) gs) in
     let room : r.full + (bit (is_full n) + without_room s.1) ≡ r.full + bit (is_full n) + without_room s.1 = omega arith in
-    ap (λ (x : Content × Note).
-    let y = heard_all x.0 gs in
+    ap (λ (x : Entries × Note).
+    let y = steps linkage x.0 (map (said c.blocks) gs) in
     record {
-      answer = record { outcome = r.outcome; place = r.place; notes = ns ++ x.1 ∷ y.1; left = y.0 };
+      answer = record { outcome = r.outcome; place = r.place; notes = ns ++ x.1 ∷ y.1; left = with_sets c y.0 };
       full = r.full + (bit (is_full x.1) + without_room y.1);
       refused = r.refused;
     }) e
-    ∙ ap₂ (λ (m : List Note) (k : ℕ). record { answer = record { outcome = r.outcome; place = r.place; notes = m; left = s.0 }; full = k; refused = r.refused })
+    ∙ ap₂ (λ (m : List Note) (k : ℕ). record { answer = record { outcome = r.outcome; place = r.place; notes = m; left = with_sets c s.0 }; full = k; refused = r.refused })
     (sym (append_snoc ns n s.1)) room
 
-pub step_meets : (c c' : Content) (n : Note) (g : Carried) → GoodCarried g → meets c ≡ true → heard c g ≡ (c', n) → meets c' ≡ true
-unfolding heard_all
+pub step_meets : (c : Content) (c' : Entries) (n : Note) (g : FieldOf) → GoodField g → meets c ≡ true → step linkage c.sets (said c.blocks g) ≡ (c', n)
+    → meets (with_sets c c') ≡ true
+unfolding steps
 step_meets c c' n g good m e =
-    subst (λ (x : Content). meets x ≡ true) (sym (heard_left_law c (g ∷ [])) ∙ ap (λ (x : Content × Note). x.0) e) (heard_keeps c (g ∷ []) (good, tt) m)
+    let r = (content_meets c).0 m in
+    let s = ap (λ (x : Entries × Note). x.0) e in
+    (content_meets (with_sets c c')).1
+    (record {
+      sets = (table_meets_law c').1 (subst Meets s (meets_steps c.blocks c.sets (g ∷ []) (good, tt) ((table_meets_law c.sets).0 r.sets)));
+      within = subst (NumbersWithin c.blocks) s (within_steps c.blocks c.sets (g ∷ []) r.within);
+      most = r.most;
+    })
 
 -- bytes of a part
 pub part_bytes : (n at : ℕ) (bytes : List ℕ) → ((j : ℕ) → get_or bytes j 0 < 256) → (j : ℕ) → get_or (take n (drop at bytes)) j 0 < 256
@@ -182,7 +193,7 @@ part_bytes n at bytes b j =
 
 module _ (bytes : List ℕ) (t₀ t : Table) (reply : Reply) (spots : Spots) (from at i : ℕ) (G : Going bytes t₀ t reply spots from at i) where
   -- the present field
-  pub field_now : Carried
+  pub field_now : FieldOf
   field_now = get_or G.fields i no_field
 
   pub more_fields : i < spots.count → i < length G.fields
@@ -192,9 +203,9 @@ module _ (bytes : List ℕ) (t₀ t : Table) (reply : Reply) (spots : Spots) (fr
   unfolding field_now
   spot_now h = G.placed.each i (more_fields h)
 
-  pub good_now : i < spots.count → GoodCarried field_now
+  pub good_now : i < spots.count → GoodField field_now
   unfolding field_now
-  good_now h = every_get GoodCarried no_field G.fields i G.good (more_fields h)
+  good_now h = every_get GoodField no_field G.fields i G.good (more_fields h)
 
   pub few_fields : i < spots.count → i < 14
   few_fields h = omega (arith, G.placed.few, more_fields h)
@@ -203,15 +214,15 @@ module _ (bytes : List ℕ) (t₀ t : Table) (reply : Reply) (spots : Spots) (fr
   pub few_full : i < spots.count → reply.full < length bytes
   few_full h = omega (arith, G.room, G.at_most, more_fields h)
 
-  pub going_next : i < spots.count → (t' : Table) (reply' : Reply) (n : Note) (c' : Content) → heard G.now' field_now ≡ (c', n)
-      → t' ≡ store_table c' → reply' ≡ reply_with reply i n → Going bytes t₀ t' reply' spots from at (i + 1)
+  pub going_next : i < spots.count → (t' : Table) (reply' : Reply) (n : Note) (c' : Entries) → step linkage G.now'.sets (said G.now'.blocks field_now) ≡ (c', n)
+      → t' ≡ store_table (with_sets G.now' c') → reply' ≡ reply_with reply i n → Going bytes t₀ t' reply' spots from at (i + 1)
   unfolding field_now reply_with
   going_next h t' reply' n c' e s q =
       record {
         first = G.first;
         first_meets = G.first_meets;
         first_stored = G.first_stored;
-        now' = c';
+        now' = with_sets G.now' c';
         now_meets = step_meets G.now' c' n (get_or G.fields i no_field) (good_now h) G.now_meets e;
         stored = s;
         fields = G.fields;
@@ -230,7 +241,7 @@ module _ (bytes : List ℕ) (t₀ t : Table) (reply : Reply) (spots : Spots) (fr
             ∙ ap (λ (a : Ran). run_blocks ((length bytes - at) / 32) a (drop at bytes))
             (ap (resumed reply G.noted G.now') (drop-cons G.fields i no_field (more_fields h))
             ∙ resumed_step reply G.noted i G.now' c' n (get_or G.fields i no_field) (drop (suc i) G.fields) e
-            ∙ ap₂ (λ (x : Reply) (k : ℕ). resumed x (G.noted ++ n ∷ []) c' (drop k G.fields)) (sym q) (sym (add-one i)));
+            ∙ ap₂ (λ (x : Reply) (k : ℕ). resumed x (G.noted ++ n ∷ []) (with_sets G.now' c') (drop k G.fields)) (sym q) (sym (add-one i)));
       }
 
   -- ---- a block more
@@ -258,13 +269,13 @@ module _ (bytes : List ℕ) (t₀ t : Table) (reply : Reply) (spots : Spots) (fr
       ∙ ap (λ (n : ℕ). run_blocks n (spoken reply G.noted G.now') (drop at bytes)) e
       ∙ (λ j. run_blocks ((length bytes - (at + 32)) / 32) (counted reply.full reply.refused (u j) (q j)) (drop-drop 32 at bytes j))
 
-  pub going_taken : spots.count ≤ i → 32 ≤ length bytes - at → ((j : ℕ) → get_or bytes j 0 < 256) → (fs : List Carried) (t' : Table) (spots' : Spots) (reply' : Reply)
+  pub going_taken : spots.count ≤ i → 32 ≤ length bytes - at → ((j : ℕ) → get_or bytes j 0 < 256) → (fs : List FieldOf) (t' : Table) (spots' : Spots) (reply' : Reply)
       → verdict (take 32 (drop at bytes)) ≡ taken fs → SpotsAre (take 32 (drop at bytes)) spots' fs → reply' ≡ reply_to reply Done 0
-      → t' ≡ store_table (counting G.now')
+      → t' ≡ store_table (after_block G.now' G.now'.sets)
       → Going bytes t₀ t' reply' spots' at (at + 32) 0
   unfolding resumed reply_to is_done is_refused
   going_taken h l b fs t' spots' reply' v p n s =
-      let left = counting G.now' in
+      let left = after_block G.now' G.now'.sets in
       let none : bit (not (is_done Done)) ≡ 0 = unfold bit in refl in
       record {
         first = G.first;
@@ -275,7 +286,7 @@ module _ (bytes : List ℕ) (t₀ t : Table) (reply : Reply) (spots : Spots) (fr
         stored = s;
         fields = fs;
         placed = p;
-        good = taken_carried (take 32 (drop at bytes)) fs (bytes_list (take 32 (drop at bytes)) (part_bytes 32 at bytes b)) v;
+        good = taken_good (take 32 (drop at bytes)) fs (bytes_list (take 32 (drop at bytes)) (part_bytes 32 at bytes b)) v;
         inside = λ _. omega arith;
         noted = [];
         notes_are = ap (λ (x : Reply). x.notes) n ∙ no_notes_law;
@@ -285,17 +296,17 @@ module _ (bytes : List ℕ) (t₀ t : Table) (reply : Reply) (spots : Spots) (fr
         room = omega (arith, all_passed h, p.few, ap (λ (x : Reply). x.full) n);
         fewer = omega (arith, G.fewer, ap (λ (x : Reply). x.refused) n, none);
         answer =
-            answer_block h l (taken fs) v _ (answer_heard G.now' (take 32 (drop at bytes)) fs v)
+            answer_block h l (taken fs) v _ (answer_taken G.now' (take 32 (drop at bytes)) fs v)
             ∙ ap (λ (x : Reply). run_blocks ((length bytes - (at + 32)) / 32) (resumed x [] left fs) (drop (at + 32) bytes)) (sym n);
       }
 
   pub going_refused : spots.count ≤ i → 32 ≤ length bytes - at → (t' : Table) (spots' : Spots) (reply' : Reply) (o : Outcome) (p : ℕ)
       → verdict (take 32 (drop at bytes)) ≡ refused o p → reply' ≡ reply_to reply o p → spots'.count ≡ 0
-      → t' ≡ store_table (dropped G.now')
+      → t' ≡ store_table (after_block G.now' (drop_open linkage G.now'.sets))
       → Going bytes t₀ t' reply' spots' at (at + 32) 0
   unfolding reply_to without_room is_refused
   going_refused h l t' spots' reply' o p v n z s =
-      let left = dropped G.now' in
+      let left = after_block G.now' (drop_open linkage G.now'.sets) in
       let again = refused_done (take 32 (drop at bytes)) o p v in
       record {
         first = G.first;

@@ -4,7 +4,7 @@
 use Prim.Native.Nat.{ℕ, zero, suc, ◌+◌, ◌-◌, ◌*◌, ◌<◌, ◌≤◌, min}
 use native.Mathlib.Omega.{arith}
 use mathlib.Core.Path.{◌≡◌, refl, sym, ap, ap₂, ◌∙◌, subst}
-use mathlib.Core.Bool.{Bool, true, false, cond, ◌&&◌, true≢false}
+use mathlib.Core.Bool.{Bool, true, false, cond, ◌&&◌}
 use mathlib.Core.List.{List, [], ◌∷◌, ◌++◌, map, map-append}
 use mathlib.Core.Option.{Option, none, some}
 use lib.ListN.{length, get_or, set, take, drop, replicate, length-map, length-set}
@@ -25,18 +25,6 @@ use Rattle.lists.specs.Stored.{store_list, empty_list, store_maybe}
 use Rattle.lists.specs.Grown.{with_field}
 use Rattle.sets.specs.declared.Sets.{Sets}
 use Rattle.sets.specs.Stored.{store_sets, shown_in, draft_in, opened_sets, with_lists, past}
-use Rattle.services.specs.declared.Services.{Services}
-use Rattle.services.specs.Stored.{opened_services, closed_services}
-use Rattle.services.specs.Stored as Service
-use Rattle.services.specs.Places as Places
-use Rattle.services.proofs.StoreLaws as Store
-use Rattle.servicefield.specs.declared.ServiceField.{ServiceField}
-use Rattle.servicefield.specs.ServiceStep as Field'
-use Rattle.ensembles.specs.Stored as Ensembles
-use Rattle.hearing.specs.declared.HeldStep.{HeldStep as HeldService}
-use Rattle.hearing.specs.Held as Hearing
-use Rattle.hearing.specs.Held.{StepsHeld}
-use Rattle.hearing.specs.Grown as Grown
 use Rattle.table.specs.declared.Table.{Table}
 use Rattle.table.specs.Stored.{table_of, Stored}
 use Rattle.totals.specs.declared.Totals.{Totals}
@@ -44,7 +32,7 @@ use Rattle.totals.specs.Kept.{exchanged_set}
 use Rattle.sets.specs.Places.{place_in}
 use Rattle.block.specs.declared.Spots.{Spots}
 use Rattle.block.specs.declared.Judged.{Judged}
-use Rattle.block.specs.Judged.{field_in, service_in, no_spot, no_spots}
+use Rattle.block.specs.Judged.{field_in, no_spot, no_spots}
 use Rattle.block.proofs.Meaning.{body_at, JudgedAs}
 use Rattle.reading.specs.declared.Reply.{Reply}
 use Rattle.reading.specs.declared.rows.Row.{Row}
@@ -56,7 +44,6 @@ use Rattle.reading.specs.Runs.{no_reply, reply_to, reply_with, Runs}
 use Rattle.sets.proofs.StoreLaws.{set_at}
 use Rattle.reading.proofs.RunLaws.{Going, going_first, going_end}
 use Rattle.reading.proofs.Turns.{turn_held, turn_new, turn_same, turn_taken, turn_refused}
-use Rattle.reading.proofs.ServiceTurns.{turn_service, turn_service_new, turn_service_same}
 use Rattle.reading.proofs.RowLaws.{row_of}
 use Rattle.reading.proofs.GatheredLaws.{length_gathered, gathered_at, gathered_set, gathered_none, unchanged_laid, unchanged_set, unchanged_none, splice_long}
 
@@ -114,30 +101,24 @@ short_packed ls p e h =
     let n : (get_or ls p past).len ≡ min (get_or ls p past).len most_ids = ap (λ (l : IdList). l.len) (ap (λ (x : List IdList). get_or x p past) (sym e) ∙ get_d_map packed ls p past past h) in
     omega arith
 
--- no list is dropped twice
-closed_again : (v : Services) → closed_services (closed_services v) ≡ closed_services v
-unfolding closed_services
-closed_again v = refl
-
 -- ---- what the loop keeps
 
--- the sets that were laid out, and the totals, blocks, services, states, numbers and rows since; unless a list of a service may be open, none is
-pub record Kept (bytes : List ℕ) (t₀ : Table) (l : Sets) (n : Totals) (m : ℕ) (v : Services) (open' : Bool) (on : List Bool) (ns : List ℕ) (sn sk : List ℕ) (s : Rows) (dn dk : List ℕ) (d : Rows) (reply : Reply) (spots : Spots) (from at i : ℕ) : Type 0 where
+-- the sets that were laid out, and the totals, blocks, states, numbers and rows since
+pub record Kept (bytes : List ℕ) (t₀ : Table) (l : Sets) (n : Totals) (m : ℕ) (on : List Bool) (ns : List ℕ) (sn sk : List ℕ) (s : Rows) (dn dk : List ℕ) (d : Rows) (reply : Reply) (spots : Spots) (from at i : ℕ) : Type 0 where
   pub shown : Whole sn sk s
   pub draft : Whole dn dk d
   pub shown_laid : Unchanged l.shown sn sk s
   pub draft_laid : Unchanged l.draft dn dk d
-  pub quiet : open' ≡ false → closed_services v ≡ v
-  pub going : Going bytes t₀ (table_of (sets_of l on ns sn sk s dn dk d) n m v) reply spots from at i
+  pub going : Going bytes t₀ (table_of (sets_of l on ns sn sk s dn dk d) n m) reply spots from at i
 
 module _ (bytes : List ℕ) (t : Table) (stored : Stored t) (sn sk dn dk : List ℕ) (s d : Rows) (p : Laid t.sets.shown s sn sk) (q : Laid t.sets.draft d dn dk) where
-  pub first_table : table_of (sets_of t.sets t.sets.on t.sets.confirmed sn sk s dn dk d) t.totals t.blocks t.services ≡ t
+  pub first_table : table_of (sets_of t.sets t.sets.on t.sets.confirmed sn sk s dn dk d) t.totals t.blocks ≡ t
   unfolding Stored
   first_table =
-      ap (λ (x : Sets). table_of x t.totals t.blocks t.services) (laid t.sets stored.0.sets (sets_meet_law stored.0 stored.1) (ap (λ (u : Table). u.sets) stored.2) sn sk dn dk s d p.same q.same)
+      ap (λ (x : Sets). table_of x t.totals t.blocks) (laid t.sets stored.0.sets (sets_meet_law stored.0 stored.1) (ap (λ (u : Table). u.sets) stored.2) sn sk dn dk s d p.same q.same)
 
   pub kept_first : (reply : Reply) → reply ≡ no_reply → (spots : Spots) → spots ≡ no_spots
-      → Kept bytes (table_of (sets_of t.sets t.sets.on t.sets.confirmed sn sk s dn dk d) t.totals t.blocks t.services) t.sets t.totals t.blocks t.services true t.sets.on t.sets.confirmed sn sk s dn dk d reply spots 0 0 0
+      → Kept bytes (table_of (sets_of t.sets t.sets.on t.sets.confirmed sn sk s dn dk d) t.totals t.blocks) t.sets t.totals t.blocks t.sets.on t.sets.confirmed sn sk s dn dk d reply spots 0 0 0
   unfolding Stored
   kept_first reply re spots se =
       record {
@@ -145,20 +126,19 @@ module _ (bytes : List ℕ) (t : Table) (stored : Stored t) (sn sk dn dk : List 
         draft = q.whole;
         shown_laid = unchanged_laid t.sets.shown sn sk s (p.same ∙ packed_shown t.sets stored.0.sets (sets_meet_law stored.0 stored.1) (ap (λ (u : Table). u.sets) stored.2));
         draft_laid = unchanged_laid t.sets.draft dn dk d (q.same ∙ packed_draft t.sets stored.0.sets (sets_meet_law stored.0 stored.1) (ap (λ (u : Table). u.sets) stored.2));
-        quiet = λ e. absurd (true≢false e);
-        going = going_first bytes (table_of (sets_of t.sets t.sets.on t.sets.confirmed sn sk s dn dk d) t.totals t.blocks t.services) reply spots stored.0 stored.1 (first_table ∙ stored.2) re se;
+        going = going_first bytes (table_of (sets_of t.sets t.sets.on t.sets.confirmed sn sk s dn dk d) t.totals t.blocks) reply spots stored.0 stored.1 (first_table ∙ stored.2) re se;
       }
 
 -- ---- a turn
 
-module _ {bytes : List ℕ} {t₀ : Table} {l : Sets} {n : Totals} {m : ℕ} {v : Services} {o : Bool} {on : List Bool} {ns : List ℕ} {sn sk : List ℕ} {s : Rows} {dn dk : List ℕ} {d : Rows} {reply : Reply} {spots : Spots} {from at i : ℕ}
-    (K : Kept bytes t₀ l n m v o on ns sn sk s dn dk d reply spots from at i) where
+module _ {bytes : List ℕ} {t₀ : Table} {l : Sets} {n : Totals} {m : ℕ} {on : List Bool} {ns : List ℕ} {sn sk : List ℕ} {s : Rows} {dn dk : List ℕ} {d : Rows} {reply : Reply} {spots : Spots} {from at i : ℕ}
+    (K : Kept bytes t₀ l n m on ns sn sk s dn dk d reply spots from at i) where
   abbrev t : Sets
   t = sets_of l on ns sn sk s dn dk d
 
-  -- with the totals, the count and the services
+  -- with the totals and the count
   abbrev u : Table
-  u = table_of t n m v
+  u = table_of t n m
 
   -- an open list has at most 128 identifiers
   pub draft_short : (p : ℕ) → p < most_keys → (list : Row) → list ≡ row_of (get_or d.lens p 0) (get_or d.names p 0) → list.len ≤ most_ids
@@ -171,19 +151,19 @@ module _ {bytes : List ℕ} {t₀ : Table} {l : Sets} {n : Totals} {m : ℕ} {v 
       omega arith
 
   -- the end
-  pub kept_end : spots.count ≤ i → length bytes - at < 32 → (w : Table) → t₀ ≡ w → (r : Table) → r ≡ u
-      → Runs w bytes (record { reply = reply; table = r })
-  kept_end a b w e r re =
+  pub kept_end : spots.count ≤ i → length bytes - at < 32 → (v : Table) → t₀ ≡ v → (r : Table) → r ≡ u
+      → Runs v bytes (record { reply = reply; table = r })
+  kept_end a b v e r re =
       subst (λ (x : Table). Runs x bytes (record { reply = reply; table = r })) e (going_end bytes t₀ u reply spots from at i K.going a b r re)
 
-  -- a linking field
-  module _ (lt : i < spots.count) (mark : (get_or spots.spots i no_spot).service ≡ false) (body : List ℕ) (body_is : body ≡ body_at (take 32 (drop from bytes)) (get_or spots.spots i no_spot))
+  -- a field
+  module _ (lt : i < spots.count) (body : List ℕ) (body_is : body ≡ body_at (take 32 (drop from bytes)) (get_or spots.spots i no_spot))
       (f : Field) (f-is : f ≡ field_in body (get_or spots.spots i no_spot).place) (key : ℕ) (ke : key ≡ key_in f) (p : ℕ) (p-is : p ≡ place_in (take l.count l.keys) key)
       (reply' : Reply) where
     kept : {l' : Sets} {n' : Totals} {m' : ℕ} {on' : List Bool} {ns' : List ℕ} {sn' sk' : List ℕ} {s' : Rows} {dn' dk' : List ℕ} {d' : Rows} → Whole sn' sk' s' → Whole dn' dk' d'
         → Unchanged l'.shown sn' sk' s' → Unchanged l'.draft dn' dk' d'
-        → Going bytes t₀ (table_of (sets_of l' on' ns' sn' sk' s' dn' dk' d') n' m' v) reply' spots from at (i + 1) → Kept bytes t₀ l' n' m' v o on' ns' sn' sk' s' dn' dk' d' reply' spots from at (i + 1)
-    kept ws wd us ud G = record { shown = ws; draft = wd; shown_laid = us; draft_laid = ud; quiet = K.quiet; going = G }
+        → Going bytes t₀ (table_of (sets_of l' on' ns' sn' sk' s' dn' dk' d') n' m') reply' spots from at (i + 1) → Kept bytes t₀ l' n' m' on' ns' sn' sk' s' dn' dk' d' reply' spots from at (i + 1)
+    kept ws wd us ud G = record { shown = ws; draft = wd; shown_laid = us; draft_laid = ud; going = G }
 
     abbrev noted' : Note → Type 0
     noted' n = reply' ≡ reply_with reply i n
@@ -241,13 +221,13 @@ module _ {bytes : List ℕ} {t₀ : Table} {l : Sets} {n : Totals} {m : ℕ} {v 
       len_is = ap (λ (x : IdList). x.len) shown_at_law ∙ ap (λ (x : Row). x.len) row_is
 
       pub kept_held : (q : ℕ) → q ≡ confirmed_by r.note (get_or ns p 0) m → (n' : Totals) → n' ≡ exchanged_set n (get_or s.lens p 0) (get_or on p false) r.shown.len (eqb f.la 1) → noted' r.note
-          → Kept bytes t₀ l n' m v o on' (set ns p q) (put' sn sn') (put' sk sk') (rows' s r.shown.len r.shown.named) (put' dn dn') (put' dk dk') (rows' d r.draft.len r.draft.named) reply' spots from at (i + 1)
+          → Kept bytes t₀ l n' m on' (set ns p q) (put' sn sn') (put' sk sk') (rows' s r.shown.len r.shown.named) (put' dn dn') (put' dk dk') (rows' d r.draft.len r.draft.named) reply' spots from at (i + 1)
       unfolding sets_of row_list
       kept_held q qe n' ne re =
           kept (whole' sn sk s K.shown sn' sk' lsn lsk r.shown.len r.shown.named) (whole' dn dk d K.draft dn' dk' ldn ldk r.draft.len r.draft.named)
           (unchanged' l.shown sn sk s K.shown K.shown_laid sn' sk' lsn lsk r.shown.len r.shown.named) (unchanged' l.draft dn dk d K.draft K.draft_laid dn' dk' ldn ldk r.draft.len r.draft.named)
-          (subst (λ (x : Sets). Going bytes t₀ (table_of x n' m v) reply' spots from at (i + 1)) (table_is q)
-          (turn_held bytes t₀ u reply spots from at i K.going lt mark body body_is f f-is key ke p p-is b
+          (subst (λ (x : Sets). Going bytes t₀ (table_of x n' m) reply' spots from at (i + 1)) (table_is q)
+          (turn_held bytes t₀ u reply spots from at i K.going lt body body_is f f-is key ke p p-is b
           (record { draft = row_list dn' dk' r.draft; shows = is_showing r.note; note = r.note })
           (subst (λ (l : IdList). HeldStep body f l (record { draft = row_list dn' dk' r.draft; shows = is_showing r.note; note = r.note })) (sym draft_at) step.drafted)
           (row_list sn' sk' r.shown) (step.showing ∙ ap₂ (λ (x y : IdList). cond (is_showing r.note) x y) (sym draft_at) (sym shown_at_law))
@@ -257,81 +237,48 @@ module _ {bytes : List ℕ} {t₀ : Table} {l : Sets} {n : Totals} {m : ℕ} {v 
     module _ (b : (ltb p l.count && eqb (get_or l.keys p 0) key) ≡ false) where
       pub kept_new : opens_in f l.count ≡ true → ((n : ℕ) → get_or bytes n 0 < 256) → (t' now' : Sets) → now' ≡ t → t' ≡ opened_sets now' p key (eqb f.la 1) (with_field empty_list body f).list
           → (sn' sk' dn' dk' : List ℕ) (s' d' : Rows) → Laid t'.shown s' sn' sk' → Laid t'.draft d' dn' dk' → noted' Opened
-          → Kept bytes t₀ t' n m v o t'.on t'.confirmed sn' sk' s' dn' dk' d' reply' spots from at (i + 1)
+          → Kept bytes t₀ t' n m t'.on t'.confirmed sn' sk' s' dn' dk' d' reply' spots from at (i + 1)
       unfolding sets_of
       kept_new open' b256 t' now' ne te sn' sk' dn' dk' s' d' ps pd re =
-          let G = turn_new bytes t₀ u reply spots from at i K.going lt mark body body_is f f-is key ke p p-is b open' b256 empty_list (with_field empty_list body f) refl refl
+          let G = turn_new bytes t₀ u reply spots from at i K.going lt body body_is f f-is key ke p p-is b open' b256 empty_list (with_field empty_list body f) refl refl
           t' (te ∙ ap (λ (x : Sets). opened_sets x p key (eqb f.la 1) (with_field empty_list body f).list) ne) reply' re in
           let store = ap (λ (x : Table). x.sets) G.stored in
           kept ps.whole pd.whole
           (unchanged_laid t'.shown sn' sk' s' (ps.same ∙ packed_shown t' G.now'.sets (sets_meet_law G.now' G.now_meets) store)) (unchanged_laid t'.draft dn' dk' d' (pd.same ∙ packed_draft t' G.now'.sets (sets_meet_law G.now' G.now_meets) store))
-          (subst (λ (x : Sets). Going bytes t₀ (table_of x n m v) reply' spots from at (i + 1)) (sym (laid t' G.now'.sets (sets_meet_law G.now' G.now_meets) store sn' sk' dn' dk' s' d' ps.same pd.same)) G)
+          (subst (λ (x : Sets). Going bytes t₀ (table_of x n m) reply' spots from at (i + 1)) (sym (laid t' G.now'.sets (sets_meet_law G.now' G.now_meets) store sn' sk' dn' dk' s' d' ps.same pd.same)) G)
 
-      pub kept_same : opens_in f l.count ≡ false → (q : Note) → q ≡ unheld_note f → noted' q → Kept bytes t₀ l n m v o on ns sn sk s dn dk d reply' spots from at (i + 1)
+      pub kept_same : opens_in f l.count ≡ false → (q : Note) → q ≡ unheld_note f → noted' q → Kept bytes t₀ l n m on ns sn sk s dn dk d reply' spots from at (i + 1)
       unfolding sets_of
       kept_same shut' q qe re =
           kept K.shown K.draft K.shown_laid K.draft_laid
-          (turn_same bytes t₀ u reply spots from at i K.going lt mark body body_is f f-is key ke p p-is b shut' q qe reply' re)
+          (turn_same bytes t₀ u reply spots from at i K.going lt body body_is f f-is key ke p p-is b shut' q qe reply' re)
 
   -- a block
   module _ (a : spots.count ≤ i) (more : 32 ≤ length bytes - at) (b256 : (n : ℕ) → get_or bytes n 0 < 256) (part : List ℕ) (part-is : part ≡ take 32 (drop at bytes)) (r : Judged)
       (judged : JudgedAs part (verdict part) r) (reply' : Reply) (re : reply' ≡ reply_to reply r.outcome r.place) (m' : ℕ) (me : m' ≡ next_block m) where
-    pub kept_taken : is_done r.outcome ≡ true → Kept bytes t₀ l n m' v o on ns sn sk s dn dk d reply' r.spots at (at + 32) 0
+    pub kept_taken : is_done r.outcome ≡ true → Kept bytes t₀ l n m' on ns sn sk s dn dk d reply' r.spots at (at + 32) 0
     kept_taken y =
         record {
           shown = K.shown;
           draft = K.draft;
           shown_laid = K.shown_laid;
           draft_laid = K.draft_laid;
-          quiet = K.quiet;
           going =
-              subst (λ (k : ℕ). Going bytes t₀ (table_of t n k v) reply' r.spots at (at + 32) 0) (sym me)
+              subst (λ (k : ℕ). Going bytes t₀ (table_of t n k) reply' r.spots at (at + 32) 0) (sym me)
               (turn_taken bytes t₀ u reply spots from at i K.going a more b256 part part-is r reply' re judged y);
         }
 
-    pub kept_refused : is_done r.outcome ≡ false → (d' : Rows) → d' ≡ no_rows → (v' : Services) → v' ≡ closed_services v → Kept bytes t₀ l n m' v' false on ns sn sk s dn dk d' reply' r.spots at (at + 32) 0
+    pub kept_refused : is_done r.outcome ≡ false → (d' : Rows) → d' ≡ no_rows → Kept bytes t₀ l n m' on ns sn sk s dn dk d' reply' r.spots at (at + 32) 0
     unfolding sets_of
-    kept_refused y d' de v' ve =
+    kept_refused y d' de =
         let no_lists : gathered dn dk d' ≡ replicate most_keys empty_list = ap (gathered dn dk) de ∙ gathered_none dn dk in
         record {
           shown = K.shown;
           draft = subst (Whole dn dk) (sym de) (record { numbers = K.draft.numbers; kinds = K.draft.kinds; lens = unfold no_rows in refl; names = unfold no_rows in refl; changed = unfold no_rows in refl });
           shown_laid = K.shown_laid;
           draft_laid = subst (Unchanged l.draft dn dk) (sym de) (unchanged_none l.draft dn dk);
-          quiet = λ _. ap closed_services ve ∙ closed_again v ∙ sym ve;
           going =
-              subst (λ (k : ℕ). Going bytes t₀ (table_of (with_lists l on ns (gathered sn sk s) (gathered dn dk d')) n k v') reply' r.spots at (at + 32) 0) (sym me)
-              (subst (λ (x : List IdList). Going bytes t₀ (table_of (with_lists l on ns (gathered sn sk s) x) n (next_block m) v') reply' r.spots at (at + 32) 0) (sym no_lists)
-              (turn_refused bytes t₀ u reply spots from at i K.going a more b256 part part-is r reply' re judged y empty_list refl v' ve));
+              subst (λ (k : ℕ). Going bytes t₀ (table_of (with_lists l on ns (gathered sn sk s) (gathered dn dk d')) n k) reply' r.spots at (at + 32) 0) (sym me)
+              (subst (λ (x : List IdList). Going bytes t₀ (table_of (with_lists l on ns (gathered sn sk s) x) n (next_block m)) reply' r.spots at (at + 32) 0) (sym no_lists)
+              (turn_refused bytes t₀ u reply spots from at i K.going a more b256 part part-is r reply' re judged y empty_list refl));
         }
-
-    -- where no list of a service is open, none has to be dropped
-    pub kept_refused_quiet : o ≡ false → is_done r.outcome ≡ false → (d' : Rows) → d' ≡ no_rows → Kept bytes t₀ l n m' v false on ns sn sk s dn dk d' reply' r.spots at (at + 32) 0
-    kept_refused_quiet e y d' de = kept_refused y d' de v (sym (K.quiet e))
-
-  -- and its mark says so still
-  pub still_quiet : o ≡ false → {m' : ℕ} {d' : Rows} {reply' : Reply} {spots' : Spots} {from' at' i' : ℕ}
-      → Kept bytes t₀ l n m' v false on ns sn sk s dn dk d' reply' spots' from' at' i' → Kept bytes t₀ l n m' v o on ns sn sk s dn dk d' reply' spots' from' at' i'
-  still_quiet e {m'} {d'} {reply'} {spots'} {from'} {at'} {i'} k =
-      subst (λ (x : Bool). Kept bytes t₀ l n m' v x on ns sn sk s dn dk d' reply' spots' from' at' i') (sym e) k
-
-  -- a field of services: the rows stay
-  module _ (lt : i < spots.count) (mark : (get_or spots.spots i no_spot).service ≡ true) (body : List ℕ)
-      (body_is : body ≡ body_at (take 32 (drop from bytes)) (get_or spots.spots i no_spot))
-      (f : ServiceField) (f-is : f ≡ service_in body (get_or spots.spots i no_spot).place) (key : ℕ) (ke : key ≡ Field'.key_in f)
-      (p : ℕ) (p-is : p ≡ Places.place_in (take v.count v.keys) key) (reply' : Reply) where
-    told : (v' : Services) → Going bytes t₀ (table_of t n m v') reply' spots from at (i + 1) → Kept bytes t₀ l n m v' true on ns sn sk s dn dk d reply' spots from at (i + 1)
-    told v' G = record { shown = K.shown; draft = K.draft; shown_laid = K.shown_laid; draft_laid = K.draft_laid; quiet = λ e. absurd (true≢false e); going = G }
-
-    pub kept_service : Places.stands_at v.keys v.count p key ≡ true → (r : HeldService) → StepsHeld body f (get_or v.shown p Service.past) (get_or v.draft p Service.past) r
-        → reply' ≡ reply_with reply i r.note → Kept bytes t₀ l n m (Store.set_at v p r.shown r.draft) true on ns sn sk s dn dk d reply' spots from at (i + 1)
-    kept_service b r w re = told _ (turn_service bytes t₀ u reply spots from at i K.going lt mark body body_is f f-is key ke p p-is b r w reply' re)
-
-    pub kept_service_new : Places.stands_at v.keys v.count p key ≡ false → Hearing.opens_in f v.count ≡ true → (v' : Services)
-        → v' ≡ opened_services v p key (Grown.with_field Ensembles.empty_list body f).list → reply' ≡ reply_with reply i Opened
-        → Kept bytes t₀ l n m v' true on ns sn sk s dn dk d reply' spots from at (i + 1)
-    kept_service_new b w v' ve re = told v' (turn_service_new bytes t₀ u reply spots from at i K.going lt mark body body_is f f-is key ke p p-is b w v' ve reply' re)
-
-    pub kept_service_same : Places.stands_at v.keys v.count p key ≡ false → Hearing.opens_in f v.count ≡ false → (q : Note) → q ≡ Hearing.unheld_note f
-        → reply' ≡ reply_with reply i q → Kept bytes t₀ l n m v true on ns sn sk s dn dk d reply' spots from at (i + 1)
-    kept_service_same b w q qe re = told v (turn_service_same bytes t₀ u reply spots from at i K.going lt mark body body_is f f-is key ke p p-is b w q qe reply' re)

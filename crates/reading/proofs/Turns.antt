@@ -11,19 +11,17 @@ use lib.Dec.{ltb, eqb}
 use lib.Seq.{take-take, drop-drop}
 use borrow.Author.Tests.{ltb-true, ltb-false, not-true}
 use Rattle.rules.specs.Arrays.{padded}
-use Rattle.rules.specs.Services.{services, most_services}
-use Rattle.rules.specs.Outcomes.{Carried, linking, heard, verdict, no_block}
-use Rattle.rules.proofs.LinkageLaws.{dropped, Refusal, full_refusal, refused_not_done}
+use Rattle.rules.specs.Outcomes.{verdict, no_block}
+use Rattle.rules.proofs.LinkageLaws.{Refusal, full_refusal, refused_not_done}
 use Rattle.rules.specs.declared.Note.{Note}
 use Rattle.rules.specs.declared.Note.TheVariants.{Opened, Full, UnknownKey}
 use Rattle.rules.specs.Field.{Field as FieldOf, key_of}
 use Rattle.rules.specs.Family.{Act, start, continuation, no_list, step, on_held, fresh, insert, opening, drop_open}
 use Rattle.rules.specs.Receptions.{held_keys}
-use Rattle.rules.specs.Collecting.{linkage, Held, Entries, with_sets, next_block, said, act_of, brings, if_there, sets_meet, shown_sets, most_keys}
+use Rattle.rules.specs.Collecting.{linkage, Held, Entries, with_sets, next_block, after_block, said, act_of, brings, if_there, sets_meet, shown_sets, most_keys}
 use Rattle.rules.proofs.FamilyLaws.{Ascends, on_held_key}
 use Rattle.rules.proofs.Basics.{cases_bool, and_left, and_right}
-use Rattle.rules.proofs.Taken.{GoodField, GoodCarried}
-use Rattle.rules.proofs.TableRules.{table_rules, table_meets_law, content_meets, sets_meet_law, entry_rules}
+use Rattle.rules.proofs.TableRules.{table_rules, table_meets_law, sets_meet_law, entry_rules}
 use Rattle.rules.proofs.Entries.{column_at}
 use Rattle.field.specs.declared.Field.{Field}
 use Rattle.field.specs.declared.FieldStep.TheVariants.{Found}
@@ -39,11 +37,6 @@ use Rattle.totals.specs.declared.Totals.{Totals}
 use Rattle.totals.specs.Totals.{sums, totals_of}
 use Rattle.totals.specs.Kept.{exchanged_set}
 use Rattle.totals.proofs.Laws.{sums_exchanged, sums_opened, shown_closed}
-use Rattle.services.specs.declared.Services.{Services}
-use Rattle.services.specs.Stored.{store_services, closed_services}
-use Rattle.services.proofs.StoreLaws as Service
-use Rattle.services.proofs.TableRules as Service'
-use Rattle.services.proofs.PlaceLaws as Service''
 use Rattle.table.specs.declared.Table.{Table}
 use Rattle.table.specs.Stored.{table_of, store_table}
 use Rattle.sets.specs.Stored.{on_in, confirmed_in, shown_in, draft_in, store_sets, opened_sets, with_draft, past}
@@ -56,7 +49,7 @@ use Rattle.block.specs.declared.Spot.{Spot}
 use Rattle.block.specs.declared.Spots.{Spots}
 use Rattle.block.specs.declared.Judged.{Judged}
 use Rattle.block.specs.Judged.{field_in, no_spot}
-use Rattle.block.proofs.Meaning.{body_at, SaysLinking, says-linking, SpotsAre, JudgedAs, is_taken, is_refused, is_no_block}
+use Rattle.block.proofs.Meaning.{body_at, SpotIs, SpotsAre, JudgedAs, is_taken, is_refused, is_no_block}
 use Rattle.reading.specs.declared.Reply.{Reply}
 use Rattle.reading.specs.Steps.{ListStep, is_showing, stepped_as, HeldStep, confirmed_by, opens_in, unheld_note, is_done}
 use Rattle.reading.specs.Runs.{reply_to, reply_with}
@@ -97,26 +90,13 @@ body_of bytes from s o e =
 -- ---- a turn at a field
 
 module _ (bytes : List ℕ) (t₀ t : Table) (reply : Reply) (spots : Spots) (from at i : ℕ) (G : Going bytes t₀ t reply spots from at i)
-    (h : i < spots.count) (mark : (get_or spots.spots i no_spot).service ≡ false) (body : List ℕ) (body_is : body ≡ body_at (take 32 (drop from bytes)) (get_or spots.spots i no_spot))
+    (h : i < spots.count) (body : List ℕ) (body_is : body ≡ body_at (take 32 (drop from bytes)) (get_or spots.spots i no_spot))
     (f : Field) (f-is : f ≡ field_in body (get_or spots.spots i no_spot).place) (key : ℕ) (ke : key ≡ key_in f) (p : ℕ) (p-is : p ≡ place_in (take t.sets.count t.sets.keys) key) where
   abbrev at_place : ℕ
   at_place = (get_or spots.spots i no_spot).place
 
-  -- the present field, which is one of linking
-  abbrev now : Carried
-  now = field_now bytes t₀ t reply spots from at i G
-
-  said_now : (g : FieldOf) × (now ≡ linking g) × SaysLinking (take 32 (drop from bytes)) (get_or spots.spots i no_spot) g
-  said_now =
-      says-linking (take 32 (drop from bytes)) (get_or spots.spots i no_spot) now (spot_now bytes t₀ t reply spots from at i G h).says mark
-      (λ g q s. (g, q, s))
-
   g : FieldOf
-  g = said_now.0
-
-  now_is : now ≡ linking g
-  unfolding g
-  now_is = said_now.1
+  g = field_now bytes t₀ t reply spots from at i G
 
   c : Entries
   c = G.now'.sets
@@ -137,21 +117,13 @@ module _ (bytes : List ℕ) (t₀ t : Table) (reply : Reply) (spots : Spots) (fr
   unfolding c
   sets_are = ap (λ (u : Table). u.sets) G.stored
 
-  services_are : t.services ≡ store_services G.now'.services
-  services_are = ap (λ (u : Table). u.services) G.stored
-
   totals_are : t.totals ≡ sums (shown_sets c)
   unfolding c totals_of
   totals_are = ap (λ (u : Table). u.totals) G.stored
 
-  spot : SaysLinking (take 32 (drop from bytes)) (get_or spots.spots i no_spot) g
+  spot : SpotIs (take 32 (drop from bytes)) (get_or spots.spots i no_spot) g
   unfolding g
-  spot = said_now.2
-
-  -- what the step of the rules does to the sets is what the field does to the table
-  heard_is : (s : Entries) (m : Note) → step linkage c (said n g) ≡ (s, m) → heard G.now' now ≡ (with_sets G.now' s, m)
-  unfolding heard c n
-  heard_is s m e = ap (heard G.now') now_is ∙ ap (λ (r : Entries × Note). (with_sets G.now' r.0, r.1)) e
+  spot = spot_now bytes t₀ t reply spots from at i G h
 
   means : meaning body f ≡ g
   means = ap (meaning body) f-is ∙ ap (λ (b : List ℕ). meaning b (field_in b at_place)) body_is ∙ spot.means
@@ -169,12 +141,9 @@ module _ (bytes : List ℕ) (t₀ t : Table) (reply : Reply) (spots : Spots) (fr
   unfolding meaning key_of
   key_is = ke ∙ ap key_of means
 
-  good : GoodField g
-  good = subst GoodCarried now_is (good_now bytes t₀ t reply spots from at i G h)
-
   reserved : f.qualifier ≡ 2 → ⊥
-  unfolding meaning
-  reserved q = good.reserved (sym (ap (λ (x : FieldOf). x.qualifier) means) ∙ q)
+  unfolding g meaning
+  reserved q = (good_now bytes t₀ t reply spots from at i G h).reserved (sym (ap (λ (x : FieldOf). x.qualifier) means) ∙ q)
 
   -- the key stands at its place, or nowhere
   here : (ltb p t.sets.count && eqb (get_or t.sets.keys p 0) key) ≡ true → Here c (key_of g)
@@ -275,8 +244,7 @@ module _ (bytes : List ℕ) (t₀ t : Table) (reply : Reply) (spots : Spots) (fr
     unfolding c g j x n after
     after_meets =
         sets_meet_law (with_sets G.now' (set c j after.0))
-        (step_meets G.now' (with_sets G.now' (set c j after.0)) after.1 now (good_now bytes t₀ t reply spots from at i G h) G.now_meets
-        (heard_is (set c j after.0) after.1 (step_here n c g (here b))))
+        (step_meets G.now' (set c j after.0) after.1 g (good_now bytes t₀ t reply spots from at i G h) G.now_meets (step_here n c g (here b)))
 
     -- the totals by what changes: the set that was shown, and the one that is
     abbrev Exchanged : IdList → Totals → Type 0
@@ -290,12 +258,11 @@ module _ (bytes : List ℕ) (t₀ t : Table) (reply : Reply) (spots : Spots) (fr
 
     turn_with : (shown : IdList) → shown ≡ store_maybe after.0.shown → (m : ℕ) → Confirms m → (u : Totals) → Exchanged shown u
         → (reply' : Reply) → reply' ≡ reply_with reply i r.note
-        → Going bytes t₀ (table_of (set_at t.sets p (eqb f.la 1) m shown r.draft) u t.blocks t.services) reply' spots from at (i + 1)
+        → Going bytes t₀ (table_of (set_at t.sets p (eqb f.la 1) m shown r.draft) u t.blocks) reply' spots from at (i + 1)
     unfolding c g j x n after stepped_as totals_of
     turn_with shown e m w u v reply' q =
-        going_next bytes t₀ t reply spots from at i G h _ reply' after.1 (with_sets G.now' (set c j after.0))
-        (heard_is (set c j after.0) after.1 (step_here n c g (here b)))
-        (λ k. table_of (stored_is m w shown e k) (counted_is shown e u v k) (blocks_are k) (services_are k)) (q ∙ ap (λ (y : ListStep). reply_with reply i y.note) result)
+        going_next bytes t₀ t reply spots from at i G h _ reply' after.1 (set c j after.0)
+        (step_here n c g (here b)) (λ k. table_of (stored_is m w shown e k) (counted_is shown e u v k) (blocks_are k)) (q ∙ ap (λ (y : ListStep). reply_with reply i y.note) result)
 
     shown_or : (b : Bool) → cond b (get_or t.sets.draft p past) (get_or t.sets.shown p past) ≡ store_maybe (cond b x.draft x.shown)
     shown_or true = draft_is
@@ -303,7 +270,7 @@ module _ (bytes : List ℕ) (t₀ t : Table) (reply : Reply) (spots : Spots) (fr
 
     pub turn_held : (shown : IdList) → shown ≡ cond r.shows (get_or t.sets.draft p past) (get_or t.sets.shown p past) → (m : ℕ) → Confirms m
         → (u : Totals) → Exchanged shown u → (reply' : Reply) → reply' ≡ reply_with reply i r.note
-        → Going bytes t₀ (table_of (set_at t.sets p (eqb f.la 1) m shown r.draft) u t.blocks t.services) reply' spots from at (i + 1)
+        → Going bytes t₀ (table_of (set_at t.sets p (eqb f.la 1) m shown r.draft) u t.blocks) reply' spots from at (i + 1)
     turn_held shown e m w u v reply' q = turn_with shown (e ∙ shown_or r.shows ∙ sym shown_then) m w u v reply' q
 
   -- ---- a key that is not held
@@ -323,7 +290,7 @@ module _ (bytes : List ℕ) (t₀ t : Table) (reply : Reply) (spots : Spots) (fr
     -- a start, and room
     pub turn_new : opens_in f t.sets.count ≡ true → ((n : ℕ) → get_or bytes n 0 < 256) → (l : IdList) (w : Grown) → l ≡ empty_list → w ≡ with_field l body f
         → (t' : Sets) → t' ≡ opened_sets t.sets p key (eqb f.la 1) w.list → (reply' : Reply) → reply' ≡ reply_with reply i Opened
-        → Going bytes t₀ (table_of t' t.totals t.blocks t.services) reply' spots from at (i + 1)
+        → Going bytes t₀ (table_of t' t.totals t.blocks) reply' spots from at (i + 1)
     unfolding c g n opens_in fresh totals_of
     turn_new open' b256 l w le we t' te reply' q =
         let has : has_list_in f ≡ true = and_left (has_list_in f) _ (and_left (has_list_in f && not (continues f)) _ open') in
@@ -334,11 +301,11 @@ module _ (bytes : List ℕ) (t₀ t : Table) (reply : Reply) (spots : Spots) (fr
         ap (λ (x : Grown). x.list) (we ∙ ap (λ (x : IdList). with_field x body f) le ∙ with_none body f (inside b256) reserved)
         ∙ ap (λ (y : FieldOf). store_list (opening linkage (brings y))) means in
         let new = fresh linkage (key_of g) (eqb g.la 1) (brings g) in
-        going_next bytes t₀ t reply spots from at i G h (table_of t' t.totals t.blocks t.services) reply' Opened (with_sets G.now' (insert linkage new c))
-        (heard_is (insert linkage new c) Opened (step_new n c g ascending (nowhere b) act few))
+        going_next bytes t₀ t reply spots from at i G h (table_of t' t.totals t.blocks) reply' Opened (insert linkage new c)
+        (step_new n c g ascending (nowhere b) act few)
         (let ss = te ∙ (λ k. opened_sets (sets_are k) p (key_is k) (la_is k) (list' k)) ∙ sym (store_new c (key_of g) p (eqb g.la 1) (brings g) (nowhere b) place few) in
         let ns = totals_are ∙ sym (sums_opened c new refl (nowhere b)) in
-        λ k. table_of (ss k) (ns k) (blocks_are k) (services_are k))
+        λ k. table_of (ss k) (ns k) (blocks_are k))
         q
       where
         inside : ((n : ℕ) → get_or bytes n 0 < 256) → InBody body f
@@ -350,7 +317,7 @@ module _ (bytes : List ℕ) (t₀ t : Table) (reply : Reply) (spots : Spots) (fr
     -- anything else changes nothing
     same : (m : Note) → step linkage c (said n g) ≡ (c, m) → (reply' : Reply) → reply' ≡ reply_with reply i m → Going bytes t₀ t reply' spots from at (i + 1)
     unfolding c g n
-    same m e reply' q = going_next bytes t₀ t reply spots from at i G h t reply' m G.now' (heard_is c m e) G.stored q
+    same m e reply' q = going_next bytes t₀ t reply spots from at i G h t reply' m c e G.stored q
 
     pub turn_same : opens_in f t.sets.count ≡ false → (m : Note) → m ≡ unheld_note f → (reply' : Reply) → reply' ≡ reply_with reply i m → Going bytes t₀ t reply' spots from at (i + 1)
     unfolding opens_in unheld_note
@@ -395,13 +362,6 @@ module _ (bytes : List ℕ) (t₀ t : Table) (reply : Reply) (spots : Spots) (fr
   pub place_short : (p k : ℕ) → (ltb p t.sets.count && eqb (get_or t.sets.keys p 0) k) ≡ true → p < most_keys
   place_short p k b = omega (arith, table_short, ltb-true p t.sets.count (and_left (ltb p t.sets.count) _ b))
 
-  -- a held service has one of 64 places
-  pub service_short : (p k : ℕ) → (ltb p t.services.count && eqb (get_or t.services.keys p 0) k) ≡ true → p < most_services
-  service_short p k b =
-      let v = G.now'.services in
-      let few = ((Service'.table_rules v).0 ((content_meets G.now').0 G.now_meets).services).short in
-      omega (arith, few, Service''.count_of t.services v (ap (λ (u : Table). u.services) G.stored), ltb-true p t.services.count (and_left (ltb p t.services.count) _ b))
-
 -- a judged block has at most 14 spots
 pub judged_few : (fib : List ℕ) (r : Judged) → JudgedAs fib (verdict fib) r → r.spots.count ≤ 14
 judged_few fib r (is_taken fs v d e p) = omega (arith, p.count, p.few)
@@ -423,39 +383,30 @@ module _ (bytes : List ℕ) (t₀ t : Table) (reply : Reply) (spots : Spots) (fr
   unfolding fib
   never_none v = subst (Refusal fib) (ap verdict (sym part-is) ∙ v) (full_refusal fib full)
 
-  -- the services then: every open list dropped
-  closed_services_law : (v : Services) → v ≡ closed_services t.services → v ≡ store_services (drop_open services G.now'.services)
-  closed_services_law v e =
-      e ∙ ap (λ (u : Table). closed_services u.services) G.stored
-      ∙ sym (Service.store_closed G.now'.services ((Service'.table_rules G.now'.services).0 ((content_meets G.now').0 G.now_meets).services).short)
-
-  closed_table : (n : IdList) → n ≡ empty_list → (v : Services) → v ≡ closed_services t.services
-      → table_of (with_draft t.sets (replicate most_keys n)) t.totals (next_block t.blocks) v ≡ store_table (dropped G.now')
+  closed_table : (n : IdList) → n ≡ empty_list
+      → table_of (with_draft t.sets (replicate most_keys n)) t.totals (next_block t.blocks) ≡ store_table (after_block G.now' (drop_open linkage G.now'.sets))
   unfolding totals_of
-  closed_table n ne v ve =
+  closed_table n ne =
       let few = ((table_rules G.now'.sets).0 (sets_meet_law G.now' G.now_meets)).short in
-      let vs = closed_services_law v ve in
-      (λ k. table_of (with_draft (G.stored k).sets (replicate most_keys (ne k))) (G.stored k).totals (next_block (G.stored k).blocks) (vs k))
-      ∙ ap₂ (λ (s : Sets) (u : Totals). table_of s u (next_block G.now'.blocks) (store_services (drop_open services G.now'.services)))
-      (sym (store_closed G.now'.sets few)) (ap sums (sym (shown_closed G.now'.sets)))
+      ap₂ (λ (u : Table) (x : IdList). table_of (with_draft u.sets (replicate most_keys x)) u.totals (next_block u.blocks)) G.stored ne
+      ∙ ap₂ (λ (s : Sets) (u : Totals). table_of s u (next_block G.now'.blocks)) (sym (store_closed G.now'.sets few)) (ap sums (sym (shown_closed G.now'.sets)))
 
   pub turn_taken : JudgedAs part (verdict part) r → is_done r.outcome ≡ true
-      → Going bytes t₀ (table_of t.sets t.totals (next_block t.blocks) t.services) reply' r.spots at (at + 32) 0
+      → Going bytes t₀ (table_of t.sets t.totals (next_block t.blocks)) reply' r.spots at (at + 32) 0
   turn_taken (is_taken fs v d e p) y =
       going_taken bytes t₀ t reply spots from at i G h l b256 fs _ r.spots reply' (ap verdict (sym part-is) ∙ v) (subst (λ (x : List ℕ). SpotsAre x r.spots fs) part-is p)
-      (reply-is ∙ ap₂ (reply_to reply) d e) (unfold totals_of in ap (λ (u : Table). table_of u.sets u.totals (next_block u.blocks) u.services) G.stored)
+      (reply-is ∙ ap₂ (reply_to reply) d e) (unfold totals_of in ap (λ (u : Table). table_of u.sets u.totals (next_block u.blocks)) G.stored)
   turn_taken (is_refused q w v d e z) y = absurd (refused_not_done part q w v (done_is q (sym (ap is_done d) ∙ y)))
   turn_taken (is_no_block v d e z) y = absurd (never_none v)
 
   pub turn_refused : JudgedAs part (verdict part) r → is_done r.outcome ≡ false → (none'' : IdList) → none'' ≡ empty_list
-      → (v : Services) → v ≡ closed_services t.services
-      → Going bytes t₀ (table_of (with_draft t.sets (replicate most_keys none'')) t.totals (next_block t.blocks) v) reply' r.spots at (at + 32) 0
+      → Going bytes t₀ (table_of (with_draft t.sets (replicate most_keys none'')) t.totals (next_block t.blocks)) reply' r.spots at (at + 32) 0
   unfolding is_done
-  turn_refused (is_taken fs v d e p) y n ne w we = absurd (true≢false (sym (ap is_done d) ∙ y))
-  turn_refused (is_refused q w v d e z) y n ne w' we =
+  turn_refused (is_taken fs v d e p) y n ne = absurd (true≢false (sym (ap is_done d) ∙ y))
+  turn_refused (is_refused q w v d e z) y n ne =
       going_refused bytes t₀ t reply spots from at i G h l _ r.spots reply' q w (ap verdict (sym part-is) ∙ v) (reply-is ∙ ap₂ (reply_to reply) d e) z
-      (closed_table n ne w' we)
-  turn_refused (is_no_block v d e z) y n ne w we = absurd (never_none v)
+      (closed_table n ne)
+  turn_refused (is_no_block v d e z) y n ne = absurd (never_none v)
 
 -- the block that the code hands on
 pub block_part : (bytes : List ℕ) (at : ℕ) → take (at + 32 - at) (drop at bytes) ≡ take 32 (drop at bytes)

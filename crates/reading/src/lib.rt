@@ -8,9 +8,6 @@ ghost use Rattle.rules.specs.Collecting.{next_block};
 ghost use Rattle.rules.specs.Outcomes.{read_block, is_full};
 ghost use Rattle.table.specs.Stored.{Stored, Given};
 ghost use Rattle.sets.specs.Stored.{opened_sets};
-ghost use Rattle.services.specs.Stored.{opened_services};
-ghost use Rattle.ensembles.specs.Stored.{empty_list as noEnsembles};
-ghost use Rattle.hearing.specs.Grown.{with_field as withEnsembles};
 ghost use Rattle.lists.specs.Grown.{with_field};
 ghost use Rattle.lists.specs.Stored.{empty_list};
 ghost use Rattle.reading.specs.Steps.{opens_in, unheld_note, confirmed_by, no_notes, noted_at, is_done};
@@ -20,13 +17,10 @@ ghost use Rattle.reading.specs.Runs.{no_reply, reply_to, reply_with, Runs, run_a
 mod rows;
 
 use block::Spots;
-use ensembles::Ensembles;
 use field::Field;
 use lists::IdList;
 use rows::Rows;
 use rules::{Note, Outcome};
-use servicefield::ServiceField;
-use services::Services;
 use sets::Sets;
 use table::Table;
 
@@ -277,19 +271,9 @@ fn opened(sets: Sets, at: usize, key: u32, body: &[u8], f: Field) -> Sets
     sets.opened_at(at, key, f.la == 1, list)
 }
 
-// Services with that of a field that starts a list.
-fn opened_service(services: Services, at: usize, key: u64, body: &[u8], f: ServiceField) -> Services
-    ensures { result ≡ opened_services services at key (withEnsembles noEnsembles body.now f).list }
-{
-    let first = hearing::with_field(Ensembles::empty(), body, f);
-    let list = first.list;
-    services.opened_at(at, key, list)
-}
-
 // Reads the whole blocks of some bytes in order, field by field: a turn takes one field of the present block, or judges
-// the next block. Meanwhile the lists of the sets stand in rows: numbers and kinds of the sets in `sn` and `sk`, of the open
-// lists in `dn` and `dk`. These arrays are locals, so that a field's rows can be lent and no list is copied for it. The lists of
-// services are short and are copied; `open` says whether one of them may be open, so that a refused block finds out at once.
+// the next block. Meanwhile the lists stand in rows: numbers and kinds of the sets in `sn` and `sk`, of the open lists
+// in `dn` and `dk`. These arrays are locals, so that a field's rows can be lent and no list is copied for it.
 fn run_blocks(table: Table, bytes: &[u8]) -> Run
     requires { Stored table }
     ensures { Runs table bytes.now result }
@@ -307,8 +291,6 @@ fn run_blocks(table: Table, bytes: &[u8]) -> Run
     let mut on = laid.on;
     let mut confirmed = laid.confirmed;
     let mut blocks = table.blocks;
-    let mut services = table.services;
-    let mut open = true;
     let closed = Rows::none();
     let mut reply = Reply::none();
     let mut spots = block::no_spots();
@@ -320,85 +302,56 @@ fn run_blocks(table: Table, bytes: &[u8]) -> Run
             let spot = spots.spots[i];
             let start = from + spot.start as usize;
             let end = from + spot.end as usize;
-            if spot.service {
-                let f = spot.service_field(&bytes[start..end]);
-                let key = f.key();
-                let count = services.count;
-                let p = services::place_of(&services.keys, count, key);
-                if services::stands_at(&services.keys, count, p, key) {
-                    let found = services.shown[p];
-                    let heard = services.draft[p];
-                    let held = hearing::on_held(found, heard, &bytes[start..end], f);
-                    let list = held.shown;
-                    services.shown[p] = list;
-                    let list = held.draft;
-                    services.draft[p] = list;
-                    let note = held.note;
-                    reply = reply.noted(i, note);
-                    open = true;
-                    i += 1;
-                } else if hearing::opens(f, count) {
-                    services = opened_service(services, p, key, &bytes[start..end], f);
-                    reply = reply.noted(i, Note::Opened);
-                    open = true;
-                    i += 1;
-                } else {
-                    reply = reply.noted(i, hearing::unheld_note(f));
-                    open = true;
-                    i += 1;
-                }
+            let f = spot.field(&bytes[start..end]);
+            let key = f.key();
+            let count = laid.count;
+            let p = sets::place_of(&laid.keys, count, key);
+            if sets::stands_at(&laid.keys, count, p, key) {
+                let a = p * IdList::MOST;
+                let e = a + IdList::MOST;
+                let held = rows::on_held(
+                    &mut sn[a..e],
+                    &mut sk[a..e],
+                    rows::row_at(&shown.lens, &shown.names, p),
+                    &mut dn[a..e],
+                    &mut dk[a..e],
+                    rows::row_at(&draft.lens, &draft.names, p),
+                    &bytes[start..end],
+                    f,
+                );
+                let note = held.note;
+                totals = totals.exchanged(shown.lens[p], on[p], held.shown.len, f.la == 1);
+                confirmed[p] = confirmed_by(note, confirmed[p], blocks);
+                shown.lens[p] = held.shown.len;
+                shown.names[p] = held.shown.named;
+                shown.changed[p] = true;
+                draft.lens[p] = held.draft.len;
+                draft.names[p] = held.draft.named;
+                draft.changed[p] = true;
+                on[p] = f.la == 1;
+                reply = reply.noted(i, note);
+                i += 1;
+            } else if opens(f, count) {
+                let now = sets_of(laid, on, confirmed, &sn, &sk, shown, &dn, &dk, draft);
+                laid = opened(now, p, key, &bytes[start..end], f);
+                on = laid.on;
+                confirmed = laid.confirmed;
+                let lists = laid.shown;
+                shown = rows::scatter(lists, &mut sn, &mut sk);
+                let lists = laid.draft;
+                draft = rows::scatter(lists, &mut dn, &mut dk);
+                reply = reply.noted(i, Note::Opened);
+                i += 1;
             } else {
-                let f = spot.field(&bytes[start..end]);
-                let key = f.key();
-                let count = laid.count;
-                let p = sets::place_of(&laid.keys, count, key);
-                if sets::stands_at(&laid.keys, count, p, key) {
-                    let a = p * IdList::MOST;
-                    let e = a + IdList::MOST;
-                    let held = rows::on_held(
-                        &mut sn[a..e],
-                        &mut sk[a..e],
-                        rows::row_at(&shown.lens, &shown.names, p),
-                        &mut dn[a..e],
-                        &mut dk[a..e],
-                        rows::row_at(&draft.lens, &draft.names, p),
-                        &bytes[start..end],
-                        f,
-                    );
-                    let note = held.note;
-                    totals = totals.exchanged(shown.lens[p], on[p], held.shown.len, f.la == 1);
-                    confirmed[p] = confirmed_by(note, confirmed[p], blocks);
-                    shown.lens[p] = held.shown.len;
-                    shown.names[p] = held.shown.named;
-                    shown.changed[p] = true;
-                    draft.lens[p] = held.draft.len;
-                    draft.names[p] = held.draft.named;
-                    draft.changed[p] = true;
-                    on[p] = f.la == 1;
-                    reply = reply.noted(i, note);
-                    i += 1;
-                } else if opens(f, count) {
-                    let now = sets_of(laid, on, confirmed, &sn, &sk, shown, &dn, &dk, draft);
-                    laid = opened(now, p, key, &bytes[start..end], f);
-                    on = laid.on;
-                    confirmed = laid.confirmed;
-                    let lists = laid.shown;
-                    shown = rows::scatter(lists, &mut sn, &mut sk);
-                    let lists = laid.draft;
-                    draft = rows::scatter(lists, &mut dn, &mut dk);
-                    reply = reply.noted(i, Note::Opened);
-                    i += 1;
-                } else {
-                    reply = reply.noted(i, unheld_note(f));
-                    i += 1;
-                }
+                reply = reply.noted(i, unheld_note(f));
+                i += 1;
             }
         } else {
             if bytes.len() - at < 32 {
                 let left = sets_of(laid, on, confirmed, &sn, &sk, shown, &dn, &dk, draft);
                 return Run {
                     reply,
-                    table: Table::of(left, totals, blocks, services),
+                    table: Table::of(left, totals, blocks),
                 };
             }
             from = at;
@@ -411,10 +364,6 @@ fn run_blocks(table: Table, bytes: &[u8]) -> Run
             i = 0;
             if !is_done(outcome) {
                 draft = closed;
-                if open {
-                    services = services.closed();
-                    open = false;
-                }
             }
         }
     }

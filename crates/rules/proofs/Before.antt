@@ -10,16 +10,15 @@ use lib.ListN.{length, take, drop}
 use lib.Dec.{leb, ltb}
 use borrow.Author.Tests.{eqb-true, eq-eqb}
 use Rattle.rules.specs.Field.{Field, Pair, dab, first_kind, pairs_of}
-use Rattle.rules.specs.Services.{services, told, services_meet}
-use Rattle.rules.specs.Family.{Rules, entry_with, closed, step, steps, maybe_meets, held_meets, all_meet, goes_up, table_meets}
-use Rattle.rules.specs.Collecting.{linkage, IdSet, Held, Entries, Content, with_sets, with_services, brings, act_of, said, is_key, key_width, oe_of, begins_right, not_empty, all_differ, pairs_meet, names_meet, set_meets, sets_meet, number_meets, numbers_within, next_block, meets, Shown, shown_sets, most_keys, most_ids, most_blocks}
-use Rattle.rules.specs.Outcomes.{Carried, linking, service, linking_in, heard, heard_all, Verdict, taken, refused, no_block, verdict, Answer, answer_to, read_block, read_blocks, read_recording}
-use Rattle.rules.specs.Before.{pairs_before, brings_before, said_before, heard_before, heard_all_before, answer_before, block_before, blocks_before, recording_before, begins_dab, set_before, met_before}
+use Rattle.rules.specs.Family.{Rules, entry_with, closed, steps, maybe_meets, held_meets, all_meet, goes_up, table_meets}
+use Rattle.rules.specs.Collecting.{linkage, IdSet, Held, Entries, Content, brings, act_of, said, is_key, key_width, oe_of, begins_right, not_empty, all_differ, pairs_meet, names_meet, set_meets, sets_meet, number_meets, numbers_within, next_block, meets, Shown, shown_sets, most_keys, most_ids, most_blocks}
+use Rattle.rules.specs.Outcomes.{Verdict, taken, refused, no_block, verdict, Answer, answer_to, read_block, read_blocks, read_recording}
+use Rattle.rules.specs.Before.{pairs_before, brings_before, said_before, answer_before, block_before, blocks_before, recording_before, begins_dab, set_before, met_before}
 use Rattle.rules.proofs.Basics.{and_left, and_right, and_both, and_three, and_four, and_six, Every, every_imp, every_take, every_drop}
 use Rattle.rules.proofs.FamilyLaws.{Keeps, keeps_key, every_steps, every_drop_open}
 use Rattle.rules.proofs.TableRules.{lawful, begins_dab_law, dab_begins, set_rules, each_shown}
 use Rattle.rules.proofs.Taken.{Bytes, GoodField, taken_good}
-use Rattle.rules.proofs.LinkageLaws.{key_oe, counting, cases-verdict, answer_taken, answer_refused, answer_none}
+use Rattle.rules.proofs.LinkageLaws.{key_oe, cases-verdict, answer_taken, answer_refused, answer_none}
 
 -- ---- reading
 
@@ -32,22 +31,19 @@ pub said_before_law : (n : ℕ) (f : Field) → Tuned f → said n f ≡ said_be
 unfolding said said_before act_of brings brings_before pairs_of pairs_before first_kind
 said_before_law n f z = rw z
 
+pub all_said_before : (n : ℕ) (fs : List Field) → Every Tuned fs → map (said n) fs ≡ map (said_before n) fs
+all_said_before n [] h = refl
+all_said_before n (f ∷ fs) h = rw (said_before_law n f h.0, all_said_before n fs h.1)
+
 -- of a block that is taken, every field does
 abbrev pub TunedIn : Verdict → Type 0
-TunedIn (taken fs) = Every Tuned (linking_in fs)
+TunedIn (taken fs) = Every Tuned fs
 TunedIn (refused o p) = Unit {0}
 TunedIn no_block = Unit {0}
 
-heard_before_law : (t : Content) (fs : List Carried) → Every Tuned (linking_in fs) → heard_all t fs ≡ heard_all_before t fs
-unfolding linking_in heard_all heard_all_before heard heard_before
-heard_before_law t [] h = refl
-heard_before_law t (linking f ∷ fs) h =
-    rw (said_before_law t.blocks f h.0) (rw (heard_before_law (with_sets t (step linkage t.sets (said_before t.blocks f)).0) fs h.1))
-heard_before_law t (service f ∷ fs) h = rw (heard_before_law (with_services t (step services t.services (told f)).0) fs h)
-
 answer_before_law : (t : Content) (v : Verdict) → TunedIn v → answer_to t v ≡ answer_before t v
 unfolding answer_to answer_before
-answer_before_law t (taken fs) h = rw (heard_before_law (counting t) fs h)
+answer_before_law t (taken fs) h = rw (all_said_before (next_block t.blocks) fs h)
 answer_before_law t (refused o p) h = refl
 answer_before_law t no_block h = refl
 
@@ -139,9 +135,8 @@ unfolding met_before meets sets_meet
 met_before_law t h =
     let n = numbers_within t.blocks t.sets in
     let b = leb t.blocks most_blocks in
-    let v = services_meet t.services in
-    let a = (and_four (table_meets linkage (rules_with set_before) t.sets) n b v).0 h in
-    (and_four (table_meets linkage (rules_with set_meets) t.sets) n b v).1 (table_passes set_before set_meets t.sets (every t.sets) a.0, a.1, a.2, a.3)
+    let a = (and_three (table_meets linkage (rules_with set_before) t.sets) n b).0 h in
+    (and_three (table_meets linkage (rules_with set_meets) t.sets) n b).1 (table_passes set_before set_meets t.sets (every t.sets) a.0, a.1, a.2)
   where
     every : (es : Entries) → Every (λ (e : Held). Passes set_before set_meets e.key) es
     every [] = tt
@@ -159,14 +154,12 @@ unfolding met_before meets sets_meet
 tuned_met t z h =
     let n = numbers_within t.blocks t.sets in
     let b = leb t.blocks most_blocks in
-    let v = services_meet t.services in
-    let a = (and_four (table_meets linkage (rules_with set_meets) t.sets) n b v).0 h in
-    (and_four (table_meets linkage (rules_with set_before) t.sets) n b v).1 (
+    let a = (and_three (table_meets linkage (rules_with set_meets) t.sets) n b).0 h in
+    (and_three (table_meets linkage (rules_with set_before) t.sets) n b).1 (
       table_passes set_meets set_before t.sets
           (every_imp TunedKey (λ (e : Held). Passes set_meets set_before e.key) (λ e o. set_tuned e.key o) t.sets z) a.0,
       a.1,
       a.2,
-      a.3,
     )
 
 -- ---- the guard
@@ -193,7 +186,7 @@ keys_block : (t : Content) (fib : List ℕ) → Bytes fib → TunedIn (verdict f
 unfolding closed entry_with
 keys_block t fib b z h =
     cases-verdict (verdict fib)
-    (λ fs e. subst (λ (a : Answer). TunedKeys a.left) (sym (answer_taken t fib fs e)) (keys_steps (next_block t.blocks) t.sets (linking_in fs) (taken_good fib fs b e) (subst TunedIn e z) h))
+    (λ fs e. subst (λ (a : Answer). TunedKeys a.left) (sym (answer_taken t fib fs e)) (keys_steps (next_block t.blocks) t.sets fs (taken_good fib fs b e) (subst TunedIn e z) h))
     (λ o p e. subst (λ (a : Answer). TunedKeys a.left) (sym (answer_refused t fib o p e)) (every_drop_open linkage TunedKey t.sets (λ x q. q) h))
     (λ e. subst (λ (a : Answer). TunedKeys a.left) (sym (answer_none t fib e)) h)
 

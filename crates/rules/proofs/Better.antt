@@ -10,7 +10,7 @@ use Rattle.rules.specs.Family.{Family, Listed, Entry, find, drop_open}
 use Rattle.rules.specs.Receptions.{held_keys, started_keys, among, ShowsIn, Op, takes, refuses, ignores, forgets, after_op, said_in, WorseRun, ends, keeps, loses, ShowsRun, started_run, keys_run}
 use Rattle.rules.proofs.Basics.{Every, every_left, every_right}
 use Rattle.rules.proofs.FamilyLaws.{Lawful, Ascends}
-use Rattle.rules.proofs.Runs.{StartIn, InFields, Fits, starts_in_law, starts_in_op, ascends_op, fits_op, fits_all, starts_all, run}
+use Rattle.rules.proofs.Runs.{StartIn, InFields, Fits, starts_in, starts_in_op, ascends_op, fits_op, fits_all, starts_all, run}
 use Rattle.rules.proofs.HeldKeys.{Showing, shows_showing, leads_found_in}
 use Rattle.rules.proofs.Leads.{Leads, leads_self, leads_steps, leads_dropped, leads_forget, shows_single, leads_shows_in}
 
@@ -42,7 +42,7 @@ module _ (F : Family) (L : Lawful F) where
   leads_run us ends b w fits a h st i j k s l sh = absurd sh
   leads_run us (keeps {bs} {ws} o r) b w fits a h st zero j k s l sh =
       let now = every_left (λ k. among F k us ≡ true) (started_keys F (said_in F o)) (started_run F bs) st in
-      leads_shows_in F L us b w (said_in F o) j k s l fits (starts_in_law F us (said_in F o) now) h sh
+      leads_shows_in F L us b w (said_in F o) j k s l fits (starts_in F us (said_in F o) now) h sh
   leads_run us (keeps {bs} {ws} o r) b w fits a h st (suc i) j k s l sh =
       let now = starts_in_op F us o (every_left (λ k. among F k us ≡ true) (started_keys F (said_in F o)) (started_run F bs) st) in
       let later = every_right (λ k. among F k us ≡ true) (started_keys F (said_in F o)) (started_run F bs) st in
@@ -83,7 +83,7 @@ module _ (F : Family) (L : Lawful F) where
   found_run us ends b w fits a h st i j k s l sh = absurd sh
   found_run us (keeps {bs} {ws} o r) b w fits a h st zero j k s l sh =
       let now = every_left (λ k. among F k us ≡ true) (started_keys F (said_in F o)) (started_run F bs) st in
-      found_op us b w o j k s l fits (starts_in_law F us (said_in F o) now) h sh
+      found_op us b w o j k s l fits (starts_in F us (said_in F o) now) h sh
   found_run us (keeps {bs} {ws} o r) b w fits a h st (suc i) j k s l sh =
       let now = starts_in_op F us o (every_left (λ k. among F k us ≡ true) (started_keys F (said_in F o)) (started_run F bs) st) in
       let later = every_right (λ k. among F k us ≡ true) (started_keys F (said_in F o)) (started_run F bs) st in

@@ -8,11 +8,10 @@ use mathlib.Core.List.{List, [], ◌∷◌, map}
 use mathlib.Core.Option.{Option, none, some}
 use Rattle.rules.specs.declared.Outcome.TheVariants.{Done}
 use Rattle.rules.specs.Block.{bits, bit, number, generator, shift, shifts, register, check_of, check_holds, after, walk, fig_at, figs}
-use Rattle.rules.specs.Field.{is_linking, width, big_endian, identifiers, short_field, list_field, list_bytes, field_at, key_of, pair, has_list, is_continuation, first_kind, start_pairs, pairs_of, named_by, wrong_value, empty_start}
+use Rattle.rules.specs.Field.{is_linking, width, big_endian, identifiers, short_field, list_field, list_bytes, field_at, fields_of, key_of, pair, has_list, is_continuation, first_kind, start_pairs, pairs_of, named_by, wrong_value, empty_start}
 use Rattle.rules.specs.Family.{member, added, added_all, opening, extended, entry_with, started, continued, on_held, fresh, on_unheld, kept, effect, find, replace, insert, store, step, steps, closed, drop_open}
 use Rattle.rules.specs.Collecting.{same_pair, join_names, IdSet, Content, nothing, next_block, brings, act_of, said}
-use Rattle.rules.specs.Services.{is_services}
-use Rattle.rules.specs.Outcomes.{number_of, note_number, Answer, carries, step_as, carried_at, fields_of, joined, all_fields, some?, first_place, wrong_carried, empty_carried, heard, heard_all, judge_fields, judge_figs, verdict, answer_to, read_block}
+use Rattle.rules.specs.Outcomes.{number_of, note_number, Answer, joined, all_fields, some?, first_place, judge_fields, judge_figs, verdict, answer_to, read_block}
 
 -- an example: blocks, read one after the other into the empty table, and the answer to the last of them
 pub record Example : Type 0 where
@@ -57,11 +56,11 @@ two = record { items = pair 0 0x44B1 ∷ pair 1 0x44B1 ∷ []; named = 1 }
 
 -- after so many blocks, key 2004 with a state, a shown set and the number of the block at which it was last shown, and an open list
 abbrev pub E : ℕ → Bool → Option IdSet → ℕ → Option IdSet → Content
-E n on shown p draft = record { sets = record { key = 0x2004; state = on; shown = shown; draft = draft; stamp = p } ∷ []; services = []; blocks = n }
+E n on shown p draft = record { sets = record { key = 0x2004; state = on; shown = shown; draft = draft; stamp = p } ∷ []; blocks = n }
 
 -- after so many blocks, nothing
 abbrev pub N : ℕ → Content
-N n = record { sets = []; services = []; blocks = n }
+N n = record { sets = []; blocks = n }
 
 -- example 1's list with OE 1 and another second number: key A004 of another ensemble, RDS 44B1 and RDS 43B1
 abbrev pub other : List ℕ
@@ -71,7 +70,7 @@ abbrev pub codes : IdSet
 codes = record { items = pair 1 0x44B1 ∷ pair 1 0x43B1 ∷ []; named = 1 }
 
 abbrev pub O : ℕ → Option IdSet → ℕ → Option IdSet → Content
-O n shown p draft = record { sets = record { key = 0xA004; state = true; shown = shown; draft = draft; stamp = p } ∷ []; services = []; blocks = n }
+O n shown p draft = record { sets = record { key = 0xA004; state = true; shown = shown; draft = draft; stamp = p } ∷ []; blocks = n }
 
 -- the blocks and what they should give
 unfoldable pub examples : List Example
@@ -111,5 +110,5 @@ examples =
 
 -- each of them gives what it should
 pub examples_hold : map given examples ≡ map expected examples
-unfolding examples given expected number_of note_number last_answer bits bit number generator shift shifts register check_of check_holds after walk fig_at figs is_linking width big_endian identifiers short_field list_field list_bytes field_at is_services carries step_as carried_at fields_of wrong_carried empty_carried heard heard_all key_of pair has_list is_continuation first_kind start_pairs pairs_of named_by wrong_value empty_start member added added_all opening extended entry_with started continued on_held fresh on_unheld kept effect find replace insert store step steps closed drop_open same_pair join_names brings act_of said next_block joined all_fields some? first_place judge_fields judge_figs verdict answer_to read_block mathlib.Core.Bool.xor mathlib.Core.List.zip_with
+unfolding examples given expected number_of note_number last_answer bits bit number generator shift shifts register check_of check_holds after walk fig_at figs is_linking width big_endian identifiers short_field list_field list_bytes field_at fields_of key_of pair has_list is_continuation first_kind start_pairs pairs_of named_by wrong_value empty_start member added added_all opening extended entry_with started continued on_held fresh on_unheld kept effect find replace insert store step steps closed drop_open same_pair join_names brings act_of said next_block joined all_fields some? first_place judge_fields judge_figs verdict answer_to read_block mathlib.Core.Bool.xor mathlib.Core.List.zip_with
 examples_hold = refl

@@ -18,11 +18,8 @@ pub mod Sent
 pub mod Entries
 pub mod TableRules
 pub mod Taken
-pub mod ServiceLaws
 pub mod Places
 pub mod LinkageLaws
-pub mod Alone
-pub mod Sending
 pub mod Numbers
 pub mod FirstFault
 pub mod Before

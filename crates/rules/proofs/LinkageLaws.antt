@@ -13,17 +13,15 @@ use borrow.Author.Tests.{ltb-true, eqb-true, lt-ltb, eq-eqb, ne_eqb}
 use Rattle.rules.specs.declared.Outcome.{Outcome}
 use Rattle.rules.specs.declared.Outcome.TheVariants.{Done, NotABlock}
 use Rattle.rules.specs.Block.{Placed, Walk, whole, broken, Fig, figs, check_holds}
-use Rattle.rules.specs.Field.{Field, key_of, Pair, pair, pairs_of, start_pairs, first_kind, named_by, has_list, is_continuation, width, dab, rds, drm}
-use Rattle.rules.specs.Family.{start, continuation, no_list, added_all, opening, extended, entry_with, step, steps, closed, drop_open, forget}
-use Rattle.rules.specs.Services.{services, ServiceEntries, service_key, told}
-use Rattle.rules.specs.Collecting.{join_names, linkage, IdSet, Held, Entries, Content, with_sets, with_services, linkage_rules, next_block, after_block, brings, act_of, said, key_width, not_empty, oe_of, first_of, may_begin, begins_right, kind_named, names_meet, number_meets, meets, most_ids, most_blocks}
-use Rattle.rules.specs.Outcomes.{number_of, Carried, linking, service, linking_in, services_in, Verdict, taken, refused, no_block, judge_fields, judge_figs, verdict, heard, heard_all, Answer, answer_to, read_block, read_blocks, read_recording, left_over, forgotten, is_name, forgotten_service, all_fields, some?, first_place, wrong_carried, empty_carried}
+use Rattle.rules.specs.Field.{Field, key_of, Pair, pair, pairs_of, start_pairs, first_kind, named_by, has_list, is_continuation, width, dab, rds, drm, wrong_value, empty_start}
+use Rattle.rules.specs.Family.{start, continuation, no_list, added_all, opening, extended, entry_with, steps, closed, drop_open, forget}
+use Rattle.rules.specs.Collecting.{join_names, linkage, IdSet, Held, Entries, Content, linkage_rules, next_block, after_block, brings, act_of, said, key_width, not_empty, oe_of, first_of, may_begin, begins_right, kind_named, names_meet, number_meets, meets, most_ids, most_blocks}
+use Rattle.rules.specs.Outcomes.{number_of, Verdict, taken, refused, no_block, judge_fields, judge_figs, verdict, Answer, answer_to, read_block, read_blocks, read_recording, left_over, forgotten, all_fields, some?, first_place}
 use Rattle.rules.proofs.Basics.{cases_bool, true-false, cond_cases, cond_both, Every, every_imp, every_map, every_from, every_take, every_drop}
-use Rattle.rules.proofs.FamilyLaws.{Brings, Keeps, different_added_all, added_all_first, opening_first, length_added_all, every_added_all, every_steps, every_drop_open, every_forget}
+use Rattle.rules.proofs.FamilyLaws.{Brings, Keeps, different_added_all, added_all_first, opening_first, length_added_all, every_added_all, every_steps, every_drop_open, every_forget, steps_notes}
 use Rattle.rules.proofs.FamilyRules.{FieldMeets, stamp_keeps, table_steps, table_drop_open, table_forget}
 use Rattle.rules.proofs.TableRules.{lawful, dab_named, names_small, first_again, PairMeets, SetMeets, KeyMeets, meaning, Meets, table_meets_law, NumbersWithin, content_meets, join_mod, join_div, join_zero, kind_cases}
-use Rattle.rules.proofs.Taken.{Bytes, FieldBits, GoodField, GoodCarried, good_linking, good_services, taken_carried, taken_few}
-use Rattle.rules.proofs.ServiceLaws as Services
+use Rattle.rules.proofs.Taken.{Bytes, FieldBits, GoodField, taken_good, taken_few}
 
 -- ---- names of two lists together
 
@@ -267,63 +265,25 @@ pub within_drop_open : (n : ℕ) (t : Entries) → NumbersWithin n t → Numbers
 unfolding closed entry_with
 within_drop_open n t h = every_drop_open linkage (λ e. e.stamp ≤ n) t (λ e x. x) h
 
--- so a block leaves a content that meets the rules where its sets and services do
-pub after_block_meets : (t : Content) (s : Entries) (v : ServiceEntries) → Meets s → NumbersWithin (next_block t.blocks) s → Services.Meets v
-    → meets (after_block t s v) ≡ true
-after_block_meets t s v h w m =
-    (content_meets (after_block t s v)).1 (record { sets = (table_meets_law s).1 h; within = w; most = next_most t.blocks; services = (Services.services_meet_law v).1 m })
-
--- ---- the fields of a block, each into its own family
-
--- they leave the sets that the linking fields leave, the services that the fields of services leave, and the count
-abbrev pub heard_left : Content → List Carried → Content
-heard_left t fs =
-    record {
-      sets = (steps linkage t.sets (map (said t.blocks) (linking_in fs))).0;
-      services = (steps services t.services (map told (services_in fs))).0;
-      blocks = t.blocks;
-    }
-
-pub heard_left_law : (t : Content) (fs : List Carried) → (heard_all t fs).0 ≡ heard_left t fs
-unfolding heard_all heard steps linking_in services_in
-heard_left_law t [] = refl
-heard_left_law t (linking f ∷ fs) = heard_left_law (with_sets t (step linkage t.sets (said t.blocks f)).0) fs
-heard_left_law t (service f ∷ fs) = heard_left_law (with_services t (step services t.services (told f)).0) fs
-
--- one note a field
-pub heard_notes : (t : Content) (fs : List Carried) → length (heard_all t fs).1 ≡ length fs
-unfolding heard_all
-heard_notes t [] = refl
-heard_notes t (f ∷ fs) = ap suc (heard_notes (heard t f).0 fs)
+-- so a block leaves a content that meets the rules where its sets do
+pub after_block_meets : (t : Content) (s : Entries) → meets t ≡ true → Meets s → NumbersWithin (next_block t.blocks) s → meets (after_block t s) ≡ true
+after_block_meets t s m h w = (content_meets (after_block t s)).1 (record { sets = (table_meets_law s).1 h; within = w; most = next_most t.blocks })
 
 -- ---- reading a block
 
-pub cases-verdict {ℓ} : {C : Type ℓ} (v : Verdict) → ((fs : List Carried) → v ≡ taken fs → C) → ((o : Outcome) (p : ℕ) → v ≡ refused o p → C)
+pub cases-verdict {ℓ} : {C : Type ℓ} (v : Verdict) → ((fs : List Field) → v ≡ taken fs → C) → ((o : Outcome) (p : ℕ) → v ≡ refused o p → C)
     → (v ≡ no_block → C) → C
 cases-verdict (taken fs) t r n = t fs refl
 cases-verdict (refused o p) t r n = r o p refl
 cases-verdict no_block t r n = n refl
 
--- a table that has counted one block more, and what the fields of a taken block leave of it
-abbrev pub counting : Content → Content
-counting t = after_block t t.sets t.services
-
-pub answer_heard : (t : Content) (fib : List ℕ) (fs : List Carried) → verdict fib ≡ taken fs
-    → read_block t fib ≡ record { outcome = Done; place = 0; notes = (heard_all (counting t) fs).1; left = (heard_all (counting t) fs).0 }
+pub answer_taken : (t : Content) (fib : List ℕ) (fs : List Field) → verdict fib ≡ taken fs
+    → read_block t fib ≡ record { outcome = Done; place = 0; notes = (steps linkage t.sets (map (said (next_block t.blocks)) fs)).1; left = after_block t (steps linkage t.sets (map (said (next_block t.blocks)) fs)).0 }
 unfolding read_block answer_to
-answer_heard t fib fs e = rw e
-
-pub answer_taken : (t : Content) (fib : List ℕ) (fs : List Carried) → verdict fib ≡ taken fs
-    → read_block t fib ≡ record { outcome = Done; place = 0; notes = (heard_all (counting t) fs).1; left = heard_left (counting t) fs }
-answer_taken t fib fs e =
-    answer_heard t fib fs e ∙ ap (λ (c : Content). record { outcome = Done; place = 0; notes = (heard_all (counting t) fs).1; left = c }) (heard_left_law (counting t) fs)
-
--- with all open lists dropped, and the block counted
-abbrev pub dropped : Content → Content
-dropped t = after_block t (drop_open linkage t.sets) (drop_open services t.services)
+answer_taken t fib fs e = rw e
 
 pub answer_refused : (t : Content) (fib : List ℕ) (o : Outcome) (p : ℕ) → verdict fib ≡ refused o p
-    → read_block t fib ≡ record { outcome = o; place = p; notes = []; left = dropped t }
+    → read_block t fib ≡ record { outcome = o; place = p; notes = []; left = after_block t (drop_open linkage t.sets) }
 unfolding read_block answer_to
 answer_refused t fib o p e = rw e
 
@@ -336,39 +296,31 @@ pub bytes_list : (fib : List ℕ) → ((i : ℕ) → get_or fib i 0 < 256) → B
 bytes_list fib h = every_from (λ b. b < 256) 0 fib h
 
 -- a taken block keeps the table rules, and so does a refused one
-pub heard_keeps : (t : Content) (fs : List Carried) → Every GoodCarried fs → meets t ≡ true → meets (heard_left t fs) ≡ true
-heard_keeps t fs g h =
+pub taken_keeps : (t : Content) (fs : List Field) → Every GoodField fs → meets t ≡ true
+    → meets (after_block t (steps linkage t.sets (map (said (next_block t.blocks)) fs)).0) ≡ true
+taken_keeps t fs g h =
     let m = (content_meets t).0 h in
-    (content_meets (heard_left t fs)).1
-    (record {
-      sets = (table_meets_law _).1 (meets_steps t.blocks t.sets (linking_in fs) (good_linking fs g) ((table_meets_law t.sets).0 m.sets));
-      within = within_steps t.blocks t.sets (linking_in fs) m.within;
-      most = m.most;
-      services = (Services.services_meet_law _).1 (Services.meets_steps t.services (services_in fs) (good_services fs g) ((Services.services_meet_law t.services).0 m.services));
-    })
+    let n = next_block t.blocks in
+    after_block_meets t _ h (meets_steps n t.sets fs g ((table_meets_law t.sets).0 m.sets))
+    (within_steps n t.sets fs (within_more t.blocks n t.sets (next_more t.blocks m.most) m.within))
 
--- and so does counting alone
-pub counted_keeps : (t : Content) → meets t ≡ true → meets (counting t) ≡ true
-counted_keeps t h =
-    let m = (content_meets t).0 h in
-    after_block_meets t _ _ ((table_meets_law t.sets).0 m.sets) (within_more t.blocks (next_block t.blocks) t.sets (next_more t.blocks m.most) m.within)
-    ((Services.services_meet_law t.services).0 m.services)
-
-pub taken_keeps : (t : Content) (fs : List Carried) → Every GoodCarried fs → meets t ≡ true → meets (heard_left (counting t) fs) ≡ true
-taken_keeps t fs g h = heard_keeps (counting t) fs g (counted_keeps t h)
-
-pub refused_keeps : (t : Content) → meets t ≡ true → meets (dropped t) ≡ true
+pub refused_keeps : (t : Content) → meets t ≡ true → meets (after_block t (drop_open linkage t.sets)) ≡ true
 refused_keeps t h =
     let m = (content_meets t).0 h in
     let n = next_block t.blocks in
-    after_block_meets t _ _ (meets_drop_open t.sets ((table_meets_law t.sets).0 m.sets))
+    after_block_meets t _ h (meets_drop_open t.sets ((table_meets_law t.sets).0 m.sets))
     (within_drop_open n t.sets (within_more t.blocks n t.sets (next_more t.blocks m.most) m.within))
-    (Services.meets_drop_open t.services ((Services.services_meet_law t.services).0 m.services))
+
+-- and so does counting alone
+pub counted_keeps : (t : Content) → meets t ≡ true → meets (after_block t t.sets) ≡ true
+counted_keeps t h =
+    let m = (content_meets t).0 h in
+    after_block_meets t _ h ((table_meets_law t.sets).0 m.sets) (within_more t.blocks (next_block t.blocks) t.sets (next_more t.blocks m.most) m.within)
 
 pub meets_block : (t : Content) (fib : List ℕ) → Bytes fib → meets t ≡ true → meets (read_block t fib).left ≡ true
 meets_block t fib b m =
     cases-verdict (verdict fib)
-    (λ fs e. subst (λ (a : Answer). meets a.left ≡ true) (sym (answer_taken t fib fs e)) (taken_keeps t fs (taken_carried fib fs b e) m))
+    (λ fs e. subst (λ (a : Answer). meets a.left ≡ true) (sym (answer_taken t fib fs e)) (taken_keeps t fs (taken_good fib fs b e) m))
     (λ o p e. subst (λ (a : Answer). meets a.left ≡ true) (sym (answer_refused t fib o p e)) (refused_keeps t m))
     (λ e. subst (λ (a : Answer). meets a.left ≡ true) (sym (answer_none t fib e)) m)
 
@@ -386,34 +338,20 @@ forget_keeps k t h =
       sets = (table_meets_law (forget linkage k t.sets)).1 (meets_forget k t.sets ((table_meets_law t.sets).0 m.sets));
       within = every_forget linkage (λ e. e.stamp ≤ t.blocks) k t.sets m.within;
       most = m.most;
-      services = m.services;
     })
-
--- of a service too
-pub services_keep : (t : Content) (v : ServiceEntries) → Services.Meets v → meets t ≡ true → meets (with_services t v) ≡ true
-services_keep t v s h =
-    let m = (content_meets t).0 h in
-    (content_meets (with_services t v)).1 (record { sets = m.sets; within = m.within; most = m.most; services = (Services.services_meet_law v).1 s })
-
-pub forget_service_keeps : (oe pd n : ℕ) (t : Content) → meets t ≡ true → meets (forgotten_service oe pd n t) ≡ true
-unfolding forgotten_service
-forget_service_keeps oe pd n t h =
-    cond_both (λ (c : Content). meets c ≡ true) (is_name oe pd n) _ _
-    (services_keep t _ (Services.meets_forget (service_key oe pd n) t.services ((Services.services_meet_law t.services).0 ((content_meets t).0 h).services)) h)
-    h
 
 -- at most 14 notes
 pub notes_few : (t : Content) (fib : List ℕ) → length (read_block t fib).notes ≤ 14
 notes_few t fib =
     cases-verdict (verdict fib)
     (λ fs e. subst (λ (a : Answer). length a.notes ≤ 14) (sym (answer_taken t fib fs e))
-    (omega (arith, heard_notes (counting t) fs, taken_few fib fs e)))
+    (omega (arith, steps_notes linkage t.sets (map (said (next_block t.blocks)) fs), length-map fs (said (next_block t.blocks)), taken_few fib fs e)))
     (λ o p e. subst (λ (a : Answer). length a.notes ≤ 14) (sym (answer_refused t fib o p e)) (omega arith))
     (λ e. subst (λ (a : Answer). length a.notes ≤ 14) (sym (answer_none t fib e)) (omega arith))
 
 -- one note for each field of a taken block
-pub notes_fields : (t : Content) (fib : List ℕ) (fs : List Carried) → verdict fib ≡ taken fs → length (read_block t fib).notes ≡ length fs
-notes_fields t fib fs e = rw (answer_taken t fib fs e) (heard_notes (counting t) fs)
+pub notes_fields : (t : Content) (fib : List ℕ) (fs : List Field) → verdict fib ≡ taken fs → length (read_block t fib).notes ≡ length fs
+notes_fields t fib fs e = rw (answer_taken t fib fs e) (steps_notes linkage t.sets (map (said (next_block t.blocks)) fs) ∙ length-map fs (said (next_block t.blocks)))
 
 -- ---- refused blocks
 
@@ -427,11 +365,11 @@ pub data Refused (fib : List ℕ) : ℕ → ℕ → Type 0 where
   -- 4: a field does not fit
   broken_fields : check_holds fib ≡ true → (gs : List (Placed Fig)) → figs fib ≡ whole gs → (p : ℕ) → all_fields gs ≡ broken p → Refused fib 4 p
   -- 5: some field has a wrong value
-  bad_value : check_holds fib ≡ true → (gs : List (Placed Fig)) → figs fib ≡ whole gs → (fs : List (Placed Carried)) → all_fields gs ≡ whole fs
-      → some? wrong_carried fs ≡ true → Refused fib 5 (first_place wrong_carried fs)
+  bad_value : check_holds fib ≡ true → (gs : List (Placed Fig)) → figs fib ≡ whole gs → (fs : List (Placed Field)) → all_fields gs ≡ whole fs
+      → some? wrong_value fs ≡ true → Refused fib 5 (first_place wrong_value fs)
   -- 6: some start is empty
-  no_first : check_holds fib ≡ true → (gs : List (Placed Fig)) → figs fib ≡ whole gs → (fs : List (Placed Carried)) → all_fields gs ≡ whole fs
-      → some? wrong_carried fs ≡ false → some? empty_carried fs ≡ true → Refused fib 6 (first_place empty_carried fs)
+  no_first : check_holds fib ≡ true → (gs : List (Placed Fig)) → figs fib ≡ whole gs → (fs : List (Placed Field)) → all_fields gs ≡ whole fs
+      → some? wrong_value fs ≡ false → some? empty_start fs ≡ true → Refused fib 6 (first_place empty_start fs)
 
 -- what a verdict on a block of full length says: it is no other than these
 abbrev pub Refusal : List ℕ → Verdict → Type 0
@@ -440,13 +378,13 @@ Refusal fib (refused o p) = Refused fib (number_of o) p
 Refusal fib no_block = ⊥
 
 module _ (fib : List ℕ) (h : check_holds fib ≡ true) where
-  fields_refusal : (gs : List (Placed Fig)) → figs fib ≡ whole gs → (w : Walk (Placed Carried)) → all_fields gs ≡ w → Refusal fib (judge_fields w)
+  fields_refusal : (gs : List (Placed Fig)) → figs fib ≡ whole gs → (w : Walk (Placed Field)) → all_fields gs ≡ w → Refusal fib (judge_fields w)
   unfolding judge_fields number_of
   fields_refusal gs g (broken p) e = broken_fields h gs g p e
   fields_refusal gs g (whole fs) e =
-      cases_bool (some? wrong_carried fs)
+      cases_bool (some? wrong_value fs)
       (λ v. rw v (bad_value h gs g fs e v))
-      (λ v. rw v (cases_bool (some? empty_carried fs) (λ s. rw s (no_first h gs g fs e v s)) (λ s. rw s tt)))
+      (λ v. rw v (cases_bool (some? empty_start fs) (λ s. rw s (no_first h gs g fs e v s)) (λ s. rw s tt)))
 
   figs_refusal : (w : Walk (Placed Fig)) → figs fib ≡ w → Refusal fib (judge_figs w)
   unfolding judge_figs number_of

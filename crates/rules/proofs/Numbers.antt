@@ -1,7 +1,7 @@
 -- The laws of numbers (document 02, R-9). In this order: what the rule of a number says; what a field does, apart from stamps, does not depend on them; so fields, refused
 -- blocks and forgettings; what linkage reads, apart from numbers, is what it read before; where a shown set and its stamp are from, after
 -- fields, after an operation, and after a reception.
-use Prim.Native.Nat.{ℕ, zero, suc, ◌<◌}
+use Prim.Native.Nat.{ℕ, zero, suc, ◌/◌, ◌<◌}
 use native.Mathlib.Nat.{le_of_suc-le-suc, not-suc-le-zero}
 use native.Mathlib.Omega.{arith}
 use mathlib.Core.Path.{◌≡◌, refl, sym, ap, ◌∙◌}
@@ -10,7 +10,7 @@ use mathlib.Core.Bool.{Bool, true, false}
 use mathlib.Core.List.{List, [], ◌∷◌, map}
 use mathlib.Core.Option
 use mathlib.Core.Option.{Option, none, some}
-use lib.ListN.{length, get_elem?, length-map}
+use lib.ListN.{length, take, drop, get_elem?, length-map}
 use lib.Dec.{leb, ltb}
 use borrow.Author.Tests.{eqb-true}
 use Rattle.rules.specs.declared.Note.{Note}
@@ -19,15 +19,12 @@ use Rattle.rules.specs.Family.{Family, Listed, Act, start, continuation, no_list
 use Rattle.rules.specs.Receptions.{held_keys, Shows, ShowsIn, Op, takes, refuses, ignores, forgets, after_op, said_in, ShowsRun}
 use Rattle.rules.specs.Field.{Field}
 use Rattle.rules.specs.Collecting.{linkage, Entries, Content, next_block, said, number_meets, showing, shown_sets}
-use Rattle.rules.specs.Outcomes.{linking_in, Verdict, taken, refused, no_block, answer_to, read_recording}
-use Rattle.rules.specs.Alone.{alone_after}
-use Rattle.rules.specs.Numbers.{field_at, Later, LastShown, earlier, shown, bare, bare_said, plain_said, plain_recording}
+use Rattle.rules.specs.Outcomes.{Verdict, taken, refused, no_block, verdict, answer_to, read_block, read_blocks, read_recording}
+use Rattle.rules.specs.Numbers.{field_at, Later, LastShown, earlier, shown, bare, bare_said, plain_after, plain_blocks, plain_recording}
 use Rattle.rules.proofs.Basics.{cases_bool, cases-option, true-false, none_some}
 use Rattle.rules.proofs.FamilyLaws.{Lawful, Ascends, note_step, find_key, find_step, find_step_own, find_drop, find_forget}
 use Rattle.rules.proofs.Runs.{run, ascends_op}
 use Rattle.rules.proofs.HeldKeys.{shows_key}
-use Rattle.rules.proofs.LinkageLaws.{counting, heard_left_law}
-use Rattle.rules.proofs.Alone.{part_recording}
 
 -- ---- what the rule of a number says
 
@@ -149,19 +146,26 @@ unfolding said bare_said
 bare_said_law n [] = refl
 bare_said_law n (f ∷ fs) = ap (◌∷◌ (said 0 f)) (bare_said_law n fs)
 
-plain_answer : (t : Content) (v : Verdict) → map (bare linkage) (answer_to t v).left.sets ≡ alone_after linkage plain_said (map (bare linkage) t.sets) v
-unfolding answer_to alone_after
+plain_answer : (t : Content) (v : Verdict) → map (bare linkage) (answer_to t v).left.sets ≡ plain_after (map (bare linkage) t.sets) v
+unfolding answer_to plain_after
 plain_answer t (taken fs) =
     let n = next_block t.blocks in
-    ap (λ (c : Content). map (bare linkage) c.sets) (heard_left_law (counting t) fs)
-    ∙ sym (ap (λ (r : Entries × List Note). r.0) (bare_steps linkage t.sets (map (said n) (linking_in fs))))
-    ∙ ap (λ (gs : List (Said linkage)). (steps linkage (map (bare linkage) t.sets) gs).0) (bare_said_law n (linking_in fs))
+    sym (ap (λ (r : Entries × List Note). r.0) (bare_steps linkage t.sets (map (said n) fs)))
+    ∙ ap (λ (gs : List (Said linkage)). (steps linkage (map (bare linkage) t.sets) gs).0) (bare_said_law n fs)
 plain_answer t (refused o p) = sym (bare_drop linkage t.sets)
 plain_answer t no_block = refl
 
+plain_blocks_law : (n : ℕ) (t : Content) (bytes : List ℕ) → map (bare linkage) (read_blocks n t bytes).sets ≡ plain_blocks n (map (bare linkage) t.sets) bytes
+unfolding read_blocks plain_blocks read_block
+plain_blocks_law zero t bytes = refl
+plain_blocks_law (suc n) t bytes =
+    plain_blocks_law n (read_block t (take 32 bytes)).left (drop 32 bytes)
+    ∙ ap (λ (u : Entries). plain_blocks n u (drop 32 bytes)) (plain_answer t (verdict (take 32 bytes)))
+
 -- a recording leaves, apart from numbers, what it left before there were any
 pub plain_recording_law : (t : Content) (bytes : List ℕ) → map (bare linkage) (read_recording t bytes).sets ≡ plain_recording (map (bare linkage) t.sets) bytes
-plain_recording_law = part_recording linkage plain_said (λ t. map (bare linkage) t.sets) plain_answer
+unfolding read_recording plain_recording
+plain_recording_law t bytes = plain_blocks_law (length bytes / 32) t bytes
 
 -- ---- where a shown set and its stamp are from
 

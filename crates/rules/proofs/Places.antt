@@ -10,11 +10,10 @@ use lib.ListN.{length}
 use lib.Dec.{leb}
 use borrow.Author.Tests.{leb-true, leb-false, le-leb}
 use Rattle.rules.specs.Block.{Step, item, end, wrong, Placed, Walk, whole, broken, after, walk, Fig, fig_at, figs}
-use Rattle.rules.specs.Field.{is_linking, field_at}
-use Rattle.rules.specs.Services.{service_at}
-use Rattle.rules.specs.Outcomes.{Carried, linking, service, carries, step_as, carried_at, fields_of, joined, all_fields}
+use Rattle.rules.specs.Field.{Field, is_linking, field_at, fields_of}
+use Rattle.rules.specs.Outcomes.{joined, all_fields}
 use Rattle.rules.proofs.Basics.{cases_bool, cond_both, Every}
-use Rattle.rules.proofs.Taken.{cases_step, cases-walk, broken_whole, joined-whole, whole_is, walk_item, walk_end, walk_wrong, Goes, fig_item, figs_goes, figs_every, carried_item, fields_goes, fields_every}
+use Rattle.rules.proofs.Taken.{cases_step, cases-walk, broken_whole, joined-whole, whole_is, walk_item, walk_end, walk_wrong, Goes, fig_item, figs_goes, figs_every, field_item, fields_goes, fields_every}
 
 -- ---- where a walk breaks off
 
@@ -84,19 +83,19 @@ figs_break fib p l e =
     (omega (arith, b.place_is, wrong_inside 0 (fig_at fib) 30 (fig_goes fib l) (fig_over fib l) b.here b.fault), ap (fig_at fib) (b.place_is ∙ zero-add b.here) ∙ b.fault)
 
 -- the fields of a FIG go on up to the end of its body
-module _ (fig : Fig) where
-  field_goes : (p : ℕ) (f : Carried) (q : ℕ) → carried_at fig p ≡ item f q → (p < q) × (q ≤ length fig.body)
-  field_goes p f q i = let s = carried_item fig p f q i in (omega (arith, s.from), s.inside)
+module _ (body : List ℕ) where
+  field_goes : (p : ℕ) (f : Field) (q : ℕ) → field_at body p ≡ item f q → (p < q) × (q ≤ length body)
+  field_goes p f q i = let s = field_item body p f q i in (omega (arith, s.from), s.inside)
 
-  field_over : (p : ℕ) → length fig.body ≤ p → carried_at fig p ≡ end
-  unfolding carried_at step_as field_at service_at
-  field_over p h = let e = le-leb (length fig.body) p h in cases_bool (is_linking fig) (λ l. rw (l, e)) (λ l. rw (l, e))
+  field_over : (p : ℕ) → length body ≤ p → field_at body p ≡ end
+  unfolding field_at
+  field_over p h = rw (le-leb (length body) p h)
 
-pub fields_breaks : (fig : Placed Fig) (p : ℕ) → 1 ≤ length fig.what.body → fields_of fig ≡ broken p → Breaks (fig.place + 1) (carried_at fig.what) 1 p
+pub fields_breaks : (fig : Placed Fig) (p : ℕ) → 1 ≤ length fig.what.body → fields_of fig ≡ broken p → Breaks (fig.place + 1) (field_at fig.what.body) 1 p
 unfolding fields_of
 fields_breaks fig p l e =
     let body = fig.what.body in
-    walk_breaks (fig.place + 1) (carried_at fig.what) (length body) (field_goes fig.what) (field_over fig.what) (length body) 1 p l (omega arith) e
+    walk_breaks (fig.place + 1) (field_at body) (length body) (field_goes body) (field_over body) (length body) 1 p l (omega arith) e
 
 -- they break off in its body
 pub fields_break : (fig : Placed Fig) (p : ℕ) → 1 ≤ length fig.what.body → fields_of fig ≡ broken p
@@ -104,7 +103,7 @@ pub fields_break : (fig : Placed Fig) (p : ℕ) → 1 ≤ length fig.what.body �
 fields_break fig p l e =
     let body = fig.what.body in
     let b = fields_breaks fig p l e in
-    (omega (arith, b.place_is), omega (arith, b.place_is, wrong_inside (fig.place + 1) (carried_at fig.what) (length body) (field_goes fig.what) (field_over fig.what) b.here b.fault))
+    (omega (arith, b.place_is), omega (arith, b.place_is, wrong_inside (fig.place + 1) (field_at body) (length body) (field_goes body) (field_over body) b.here b.fault))
 
 -- two walks, one after the other, break off where one of them does
 joined-breaks {ℓ} : {A : Type 0} {C : Type ℓ} (v w : Walk A) (p : ℕ) → joined v w ≡ broken p → (v ≡ broken p → C) → (w ≡ broken p → C) → C
@@ -117,7 +116,7 @@ all_break : (P : ℕ → Type 0) (p : ℕ) (gs : List (Placed Fig)) → Every (�
 unfolding all_fields
 all_break P p [] h = λ e. broken_whole p [] (sym e)
 all_break P p (fig ∷ gs) h =
-    cond_both (λ (w : Walk (Placed Carried)). w ≡ broken p → P p) (carries fig.what) (joined (fields_of fig) (all_fields gs)) (all_fields gs)
+    cond_both (λ (w : Walk (Placed Field)). w ≡ broken p → P p) (is_linking fig.what) (joined (fields_of fig) (all_fields gs)) (all_fields gs)
     (λ e. joined-breaks (fields_of fig) (all_fields gs) p e h.0 (all_break P p gs h.1))
     (all_break P p gs h.1)
 
@@ -157,26 +156,26 @@ pub figs_ascend : (fib : List ℕ) (gs : List (Placed Fig)) → length fib ≡ 3
 figs_ascend fib gs l w = goes_ascend 0 (fig_at fib) (λ p fig q e. omega (arith, (fig_item fib p fig q l e).ends)) 0 gs (figs_goes fib gs w)
 
 -- the fields of a FIG, between its place and its end
-fig_fields_ascend : (fig : Placed Fig) (fs : List (Placed Carried)) → fields_of fig ≡ whole fs → Ascend fig.place fs
+fig_fields_ascend : (fig : Placed Fig) (fs : List (Placed Field)) → fields_of fig ≡ whole fs → Ascend fig.place fs
 fig_fields_ascend fig fs e =
     ascend_from fig.place (fig.place + 1 + 1) fs (omega arith)
-    (goes_ascend (fig.place + 1) (carried_at fig.what) (λ p f q i. omega (arith, (carried_item fig.what p f q i).from)) 1 fs (fields_goes fig fs e))
+    (goes_ascend (fig.place + 1) (field_at fig.what.body) (λ p f q i. omega (arith, (field_item fig.what.body p f q i).from)) 1 fs (fields_goes fig fs e))
 
-fig_fields_before : (fig : Placed Fig) (fs : List (Placed Carried)) → fields_of fig ≡ whole fs
+fig_fields_before : (fig : Placed Fig) (fs : List (Placed Field)) → fields_of fig ≡ whole fs
     → Every (λ f. f.place < fig.place + 1 + length fig.what.body) fs
 fig_fields_before fig =
     fields_every (λ f. f.place < fig.place + 1 + length fig.what.body) fig
-    (λ p f q i at. omega (arith, at, (carried_item fig.what p f.what q i).before))
+    (λ p f q i at. omega (arith, at, (field_item fig.what.body p f.what q i).before))
 
 -- the fields of a block
-all_ascend : (fib : List ℕ) (p : ℕ) (gs : List (Placed Fig)) → length fib ≡ 32 → Goes 0 (fig_at fib) p gs → (fs : List (Placed Carried))
+all_ascend : (fib : List ℕ) (p : ℕ) (gs : List (Placed Fig)) → length fib ≡ 32 → Goes 0 (fig_at fib) p gs → (fs : List (Placed Field))
     → all_fields gs ≡ whole fs → Ascend p fs
 unfolding all_fields
 all_ascend fib p [] l g fs = λ e. subst (Ascend p) (whole_is [] fs e) tt
 all_ascend fib p (fig ∷ gs) l g fs =
     let s = fig_item fib p fig.what g.0 l g.1 in
     let end' : fig.place + 1 + length fig.what.body ≡ g.0 = omega (arith, g.2, s.ends) in
-    cond_both (λ (w : Walk (Placed Carried)). w ≡ whole fs → Ascend p fs) (carries fig.what) (joined (fields_of fig) (all_fields gs)) (all_fields gs)
+    cond_both (λ (w : Walk (Placed Field)). w ≡ whole fs → Ascend p fs) (is_linking fig.what) (joined (fields_of fig) (all_fields gs)) (all_fields gs)
     (λ e. joined-whole (fields_of fig) (all_fields gs) fs e
     (λ xs ys v w q. subst (Ascend p) (sym q)
     (ascend_append p g.0 xs ys (omega (arith, s.ends)) (ascend_from p fig.place xs (omega (arith, g.2)) (fig_fields_ascend fig xs v))
@@ -184,6 +183,6 @@ all_ascend fib p (fig ∷ gs) l g fs =
     (all_ascend fib g.0 gs l g.3 ys w))))
     (λ e. ascend_from p g.0 fs (omega (arith, s.ends)) (all_ascend fib g.0 gs l g.3 fs e))
 
-pub all_fields_ascend : (fib : List ℕ) (gs : List (Placed Fig)) (fs : List (Placed Carried)) → length fib ≡ 32 → figs fib ≡ whole gs
+pub all_fields_ascend : (fib : List ℕ) (gs : List (Placed Fig)) (fs : List (Placed Field)) → length fib ≡ 32 → figs fib ≡ whole gs
     → all_fields gs ≡ whole fs → Ascend 0 fs
 all_fields_ascend fib gs fs l w = all_ascend fib 0 gs l (figs_goes fib gs w) fs

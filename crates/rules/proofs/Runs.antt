@@ -117,13 +117,13 @@ module _ (F : Family) where
   start_in us k no_list ks h = (tt, h)
   start_in us k drops ks h = (tt, h)
 
-  pub starts_in_law : (us : List F.Key) (fs : List (Said F)) → Every (λ k. among F k us ≡ true) (started_keys F fs)
+  pub starts_in : (us : List F.Key) (fs : List (Said F)) → Every (λ k. among F k us ≡ true) (started_keys F fs)
       → Every (λ f. StartIn us f.key f.act) fs
   unfolding started_keys
-  starts_in_law us [] h = tt
-  starts_in_law us (f ∷ fs) h =
+  starts_in us [] h = tt
+  starts_in us (f ∷ fs) h =
       let p = start_in us f.key f.act (started_keys F fs) h in
-      (p.0, starts_in_law us fs p.1)
+      (p.0, starts_in us fs p.1)
 
   pub length_forget_least : (k : F.Key) (t : List (Entry F)) → length t ≤ suc (length (forget F k t))
   unfolding forget
@@ -201,7 +201,7 @@ module _ (F : Family) where
   pub starts_in_op : (us : List Key) (o : Op F) → Every (λ k. among F k us ≡ true) (started_keys F (said_in F o))
       → InFields F (λ f. StartIn F us f.key f.act) o
   unfolding said_in
-  starts_in_op us (takes fs) h = starts_in_law F us fs h
+  starts_in_op us (takes fs) h = starts_in F us fs h
   starts_in_op us refuses h = tt
   starts_in_op us ignores h = tt
   starts_in_op us (forgets k) h = tt

@@ -14,7 +14,6 @@ use lib.Dec.{leb, ltb, eqb}
 use borrow.Author.Tests.{ltb-true, ltb-false, leb-true, eqb-true, eqb-false, lt-ltb, le-leb, eq-eqb, ne_eqb}
 use Rattle.rules.specs.Field.{Pair, first_kind, width, dab, rds, drm}
 use Rattle.rules.specs.Family.{member, held_meets}
-use Rattle.rules.specs.Services.{services_meet}
 use Rattle.rules.specs.Collecting.{same_pair, join_names, linkage, IdSet, Held, Entries, Content, nothing, Shown, is_key, linkage_rules, key_width, all_differ, not_empty, oe_of, first_of, may_begin, begins_right, kind_named, pairs_meet, names_meet, set_meets, if_there, entry_meets, ascends, entries_meet, number_meets, sets_meet, numbers_within, meets, showing, shown_sets, Confirmed, confirming, confirmed_sets, most_keys, most_ids, most_blocks}
 use Rattle.rules.proofs.Basics.{cases_bool, cases-option, and_left, and_right, and_both, and_three, and_four, and_six, or_cases, true-false, not-true, true_not, cond_both, eqb_self, ltb_self, ltb_trans, ltb_or, Every}
 use Rattle.rules.proofs.FamilyLaws.{Lawful, Different}
@@ -334,29 +333,23 @@ numbers_within_law n (e ∷ es) = (
   λ m. and_both (leb e.stamp n) (numbers_within n es) (le-leb e.stamp n m.0) ((numbers_within_law n es).1 m.1),
 )
 
--- the sets, their numbers, the count, and the services
+-- the sets, their numbers, and the count
 pub record ContentMeets (t : Content) : Type 0 where
   pub sets : sets_meet t.sets ≡ true
   pub within : NumbersWithin t.blocks t.sets
   pub most : t.blocks ≤ most_blocks
-  pub services : services_meet t.services ≡ true
 
 pub content_meets : (t : Content) → (meets t ≡ true) ↔ ContentMeets t
 unfolding meets
 content_meets t =
-    let a = and_four (sets_meet t.sets) (numbers_within t.blocks t.sets) (leb t.blocks most_blocks) (services_meet t.services) in (
-      λ h. let r = a.0 h in
-          record { sets = r.0; within = (numbers_within_law t.blocks t.sets).0 r.1; most = leb-true t.blocks most_blocks r.2; services = r.3 },
-      λ m. a.1 (m.sets, (numbers_within_law t.blocks t.sets).1 m.within, le-leb t.blocks most_blocks m.most, m.services),
+    let a = and_three (sets_meet t.sets) (numbers_within t.blocks t.sets) (leb t.blocks most_blocks) in (
+      λ h. let r = a.0 h in record { sets = r.0; within = (numbers_within_law t.blocks t.sets).0 r.1; most = leb-true t.blocks most_blocks r.2 },
+      λ m. a.1 (m.sets, (numbers_within_law t.blocks t.sets).1 m.within, le-leb t.blocks most_blocks m.most),
     )
-
-pub services_nil : services_meet [] ≡ true
-unfolding services_meet
-services_nil = refl
 
 -- a table that holds nothing meets them
 pub nothing_meets : meets nothing ≡ true
-nothing_meets = (content_meets nothing).1 (record { sets = meets_nil; within = tt; most = omega arith; services = services_nil })
+nothing_meets = (content_meets nothing).1 (record { sets = meets_nil; within = tt; most = omega arith })
 
 pub sets_meet_law : (t : Content) → meets t ≡ true → sets_meet t.sets ≡ true
 sets_meet_law t m = ((content_meets t).0 m).sets

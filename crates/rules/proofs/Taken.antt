@@ -12,9 +12,8 @@ use lib.Dec.{leb, ltb, eqb}
 use borrow.Author.Tests.{ltb-true, ltb-false, leb-false, eqb-true, eqb-false, eq-eqb, not-false}
 use Rattle.rules.specs.declared.Outcome.{Outcome}
 use Rattle.rules.specs.Block.{Step, item, end, wrong, Placed, what_of, Walk, whole, broken, after, walk, Fig, fig_at, figs, check_holds}
-use Rattle.rules.specs.Field.{Field, is_linking, width, big_endian, identifiers, short_field, list_field, list_bytes, field_at, has_list, is_continuation, wrong_value, empty_start}
-use Rattle.rules.specs.Services.{ServiceField, is_services, service_width, service_field_of, count_place, after_service, service_at}
-use Rattle.rules.specs.Outcomes.{Carried, linking, service, linking_in, services_in, carries, step_as, carried_at, fields_of, Verdict, taken, refused, no_block, joined, all_fields, some?, wrong_carried, empty_carried, judge_fields, judge_figs, verdict}
+use Rattle.rules.specs.Field.{Field, is_linking, width, big_endian, identifiers, short_field, list_field, list_bytes, field_at, fields_of, has_list, is_continuation, wrong_value, empty_start}
+use Rattle.rules.specs.Outcomes.{Verdict, taken, refused, no_block, joined, all_fields, some?, judge_fields, judge_figs, verdict}
 use Rattle.rules.proofs.Basics.{cases_bool, or_false_left, or_false_right, or_five, cond_cases, cond_both, Every, every_imp, every_both, every_append, every_map, every_take, every_drop, every_at}
 
 -- ---- walks
@@ -271,127 +270,30 @@ field_item body p f q =
           (at b 0) (at b p) (at b (p + 1)) (at b (p + 2)) (every_drop (λ b. b < 256) (p + 3) body b);
     }))))))
 
--- what the bits of a field of services are (document 02, R-4)
-pub record ServiceBits (f : ServiceField) : Type 0 where
-  pub cn : f.cn < 2
-  pub oe : f.oe < 2
-  pub pd : f.pd < 2
-  pub service : f.service < 256 ^ service_width f.pd
-  pub few : length f.ensembles ≤ 15
-  pub within : Every (λ n. n < 65536) f.ensembles
-
-pub service_bits : (h c : ℕ) (bytes : List ℕ) → h < 256 → Bytes bytes → ServiceBits (service_field_of h (c % 16) bytes)
-unfolding service_field_of
-service_bits h c bytes p b =
-    let w = service_width (h / 32 % 2) in
-    record {
-      cn = omega arith;
-      oe = omega arith;
-      pd = omega arith;
-      service = omega (arith, big_endian_below 0 1 (take w bytes) w (omega arith) (omega (arith, length-take w bytes)) (every_take (λ b. b < 256) w bytes b));
-      few = omega (arith, length_identifiers 2 (c % 16) (drop (w + 1) bytes));
-      within = identifiers_below 2 (c % 16) (drop (w + 1) bytes) (every_drop (λ b. b < 256) (w + 1) bytes b);
-    }
-
--- a service's number has two bytes at least
-pub service_wide : (pd : ℕ) → 2 ≤ service_width pd
-unfolding service_width
-service_wide pd = cond_both (λ (w : ℕ). 2 ≤ w) (eqb pd 1) 4 2 (omega arith) (omega arith)
-
-service_from : (body : List ℕ) (p : ℕ) → p + 3 ≤ after_service body p
-unfolding after_service count_place
-service_from body p = omega (arith, service_wide (get_or body 0 0 / 32 % 2))
-
--- such a field at a place of a FIG's body: it has three bytes at least, all in the body
-pub record ServiceStands (body : List ℕ) (p : ℕ) (f : ServiceField) (q : ℕ) : Type 0 where
-  pub before : p < length body
-  pub from : p + 3 ≤ q
-  pub inside : q ≤ length body
-  pub bits : Bytes body → ServiceBits f
-
-pub service_item : (body : List ℕ) (p : ℕ) (f : ServiceField) (q : ℕ) → service_at body p ≡ item f q → ServiceStands body p f q
-unfolding service_at
-service_item body p f q =
-    cond_cases (λ (s : Step ServiceField). s ≡ item f q → ServiceStands body p f q) (leb (length body) p) end _ (λ h e. end_item f q e) (λ h.
-    cond_cases (λ (s : Step ServiceField). s ≡ item f q → ServiceStands body p f q) (ltb (length body) (count_place body p + 1)) wrong _ (λ t e. wrong_item f q e) (λ t.
-    cond_cases (λ (s : Step ServiceField). s ≡ item f q → ServiceStands body p f q) (ltb (length body) (after_service body p)) wrong _ (λ u e. wrong_item f q e)
-    (λ u e. item-along (ServiceStands body p) _ f (after_service body p) q e
-    (record {
-      before = leb-false (length body) p h;
-      from = service_from body p;
-      inside = ltb-false (length body) (after_service body p) u;
-      bits = λ b. service_bits (get_or body 0 0) (get_or body (count_place body p) 0) (drop p body) (every_at (λ b. b < 256) 0 (omega arith) body b 0)
-          (every_drop (λ b. b < 256) p body b);
-    }))))
-
--- ---- a field of either family
-
--- a step to an item made into another is one to the item
-pub step-item {ℓ} : {A B : Type 0} {C : Type ℓ} (h : A → B) (s : Step A) (b : B) (q : ℕ) → step_as h s ≡ item b q → ((a : A) → s ≡ item a q → h a ≡ b → C) → C
-unfolding step_as
-step-item h (item a r) b q e c =
-    let x : h a ≡ b = cc in
-    let y : r ≡ q = cc in
-    c a (ap (item a) y) x
-step-item h end b q e c = end_item b q e
-step-item h wrong b q e c = wrong_item b q e
-
--- the field of a linking FIG, and of another that carries fields
-pub carried_linking : (fig : Fig) (p : ℕ) → is_linking fig ≡ true → carried_at fig p ≡ step_as linking (field_at fig.body p)
-unfolding carried_at
-carried_linking fig p l = rw l
-
-pub carried_service : (fig : Fig) (p : ℕ) → is_linking fig ≡ false → carried_at fig p ≡ step_as service (service_at fig.body p)
-unfolding carried_at
-carried_service fig p l = rw l
-
--- what its bits are
-abbrev pub CarriedBits : Carried → Type 0
-CarriedBits (linking f) = FieldBits f
-CarriedBits (service f) = ServiceBits f
-
--- it has two bytes at least, all in the body
-pub record CarriedStands (body : List ℕ) (p : ℕ) (f : Carried) (q : ℕ) : Type 0 where
-  pub before : p < length body
-  pub from : p + 2 ≤ q
-  pub inside : q ≤ length body
-  pub bits : Bytes body → CarriedBits f
-
-pub carried_item : (fig : Fig) (p : ℕ) (f : Carried) (q : ℕ) → carried_at fig p ≡ item f q → CarriedStands fig.body p f q
-carried_item fig p f q e =
-    cases_bool (is_linking fig)
-    (λ l. step-item linking (field_at fig.body p) f q (sym (carried_linking fig p l) ∙ e) (λ a i h.
-    let s = field_item fig.body p a q i in
-    subst (λ (x : Carried). CarriedStands fig.body p x q) h (record { before = s.before; from = s.from; inside = s.inside; bits = s.bits })))
-    (λ l. step-item service (service_at fig.body p) f q (sym (carried_service fig p l) ∙ e) (λ a i h.
-    let s = service_item fig.body p a q i in
-    subst (λ (x : Carried). CarriedStands fig.body p x q) h
-    (record { before = s.before; from = omega (arith, s.from); inside = s.inside; bits = s.bits })))
-
 -- ---- all fields of a block
 
 -- fields take two bytes each at least
-pub fields_inside : (from : ℕ) (fig : Fig) (p : ℕ) (fs : List (Placed Carried)) → p ≤ length fig.body → Goes from (carried_at fig) p fs
-    → p + 2 * length fs ≤ length fig.body
-fields_inside from fig p [] h g = omega arith
-fields_inside from fig p (f ∷ fs) h g =
-    let s = carried_item fig p f.what g.0 g.1 in
-    omega (arith, fields_inside from fig g.0 fs s.inside g.3, s.from)
+pub fields_inside : (from : ℕ) (body : List ℕ) (p : ℕ) (fs : List (Placed Field)) → p ≤ length body → Goes from (field_at body) p fs
+    → p + 2 * length fs ≤ length body
+fields_inside from body p [] h g = omega arith
+fields_inside from body p (f ∷ fs) h g =
+    let s = field_item body p f.what g.0 g.1 in
+    omega (arith, fields_inside from body g.0 fs s.inside g.3, s.from)
 
 -- the fields of a FIG, from its body's second byte on
-pub fields_goes : (fig : Placed Fig) (fs : List (Placed Carried)) → fields_of fig ≡ whole fs → Goes (fig.place + 1) (carried_at fig.what) 1 fs
+pub fields_goes : (fig : Placed Fig) (fs : List (Placed Field)) → fields_of fig ≡ whole fs → Goes (fig.place + 1) (field_at fig.what.body) 1 fs
 unfolding fields_of
-fields_goes fig fs h = walk_goes (fig.place + 1) (carried_at fig.what) (length fig.what.body) 1 fs h
+fields_goes fig fs h = walk_goes (fig.place + 1) (field_at fig.what.body) (length fig.what.body) 1 fs h
 
-pub fields_fit : (fig : Placed Fig) (fs : List (Placed Carried)) → 1 ≤ length fig.what.body → fields_of fig ≡ whole fs
+pub fields_fit : (fig : Placed Fig) (fs : List (Placed Field)) → 1 ≤ length fig.what.body → fields_of fig ≡ whole fs
     → 1 + 2 * length fs ≤ length fig.what.body
-fields_fit fig fs s h = fields_inside (fig.place + 1) fig.what 1 fs s (fields_goes fig fs h)
+fields_fit fig fs s h = fields_inside (fig.place + 1) fig.what.body 1 fs s (fields_goes fig fs h)
 
 -- what every field that stands in a FIG has
-pub fields_every : (P : Placed Carried → Type 0) (fig : Placed Fig)
-    → ((p : ℕ) (f : Placed Carried) (q : ℕ) → carried_at fig.what p ≡ item f.what q → f.place ≡ fig.place + 1 + p → P f)
-    → (fs : List (Placed Carried)) → fields_of fig ≡ whole fs → Every P fs
-fields_every P fig h fs e = goes_every (fig.place + 1) (carried_at fig.what) P h 1 fs (fields_goes fig fs e)
+pub fields_every : (P : Placed Field → Type 0) (fig : Placed Fig)
+    → ((p : ℕ) (f : Placed Field) (q : ℕ) → field_at fig.what.body p ≡ item f.what q → f.place ≡ fig.place + 1 + p → P f)
+    → (fs : List (Placed Field)) → fields_of fig ≡ whole fs → Every P fs
+fields_every P fig h fs e = goes_every (fig.place + 1) (field_at fig.what.body) P h 1 fs (fields_goes fig fs e)
 
 -- two walks, one after the other
 pub joined-whole {ℓ} : {A : Type 0} {C : Type ℓ} (v w : Walk A) (zs : List A) → joined v w ≡ whole zs
@@ -401,26 +303,26 @@ joined-whole (whole xs) (whole ys) zs h c = c xs ys refl refl (sym (whole_is (xs
 joined-whole (whole xs) (broken p) zs h c = broken_whole p zs h
 joined-whole (broken p) w zs h c = broken_whole p zs h
 
--- what the fields of every FIG that carries some have
-pub all_every : (P : Placed Carried → Type 0) (gs : List (Placed Fig))
-    → Every (λ fig. (fs : List (Placed Carried)) → fields_of fig ≡ whole fs → Every P fs) gs
-    → (fs : List (Placed Carried)) → all_fields gs ≡ whole fs → Every P fs
+-- what the fields of every linking FIG have
+pub all_every : (P : Placed Field → Type 0) (gs : List (Placed Fig))
+    → Every (λ fig. (fs : List (Placed Field)) → fields_of fig ≡ whole fs → Every P fs) gs
+    → (fs : List (Placed Field)) → all_fields gs ≡ whole fs → Every P fs
 unfolding all_fields
 all_every P [] h fs = λ e. subst (Every P) (whole_is [] fs e) tt
 all_every P (fig ∷ gs) h fs =
-    cond_both (λ (w : Walk (Placed Carried)). w ≡ whole fs → Every P fs) (carries fig.what) (joined (fields_of fig) (all_fields gs)) (all_fields gs)
+    cond_both (λ (w : Walk (Placed Field)). w ≡ whole fs → Every P fs) (is_linking fig.what) (joined (fields_of fig) (all_fields gs)) (all_fields gs)
     (λ e. joined-whole (fields_of fig) (all_fields gs) fs e
     (λ xs ys v w q. subst (Every P) (sym q) (every_append P xs ys (h.0 xs v) (all_every P gs h.1 ys w))))
     (all_every P gs h.1 fs)
 
 -- two bytes for each field, and two more for a FIG that has one
-pub all_fit : (gs : List (Placed Fig)) → Every (λ fig. 1 ≤ length fig.what.body) gs → (fs : List (Placed Carried)) → all_fields gs ≡ whole fs
+pub all_fit : (gs : List (Placed Fig)) → Every (λ fig. 1 ≤ length fig.what.body) gs → (fs : List (Placed Field)) → all_fields gs ≡ whole fs
     → 1 ≤ length fs → 2 + 2 * length fs ≤ fig_bytes_in gs
 unfolding all_fields fig_bytes_in
 all_fit [] h fs = λ e l. absurd (omega (arith, ap length (whole_is [] fs e)))
 all_fit (fig ∷ gs) h fs =
-    cond_both (λ (w : Walk (Placed Carried)). w ≡ whole fs → 1 ≤ length fs → 2 + 2 * length fs ≤ 1 + length fig.what.body + fig_bytes_in gs)
-    (carries fig.what) (joined (fields_of fig) (all_fields gs)) (all_fields gs)
+    cond_both (λ (w : Walk (Placed Field)). w ≡ whole fs → 1 ≤ length fs → 2 + 2 * length fs ≤ 1 + length fig.what.body + fig_bytes_in gs)
+    (is_linking fig.what) (joined (fields_of fig) (all_fields gs)) (all_fields gs)
     (λ e l. joined-whole (fields_of fig) (all_fields gs) fs e
     (λ xs ys v w q.
     let n = ap length q ∙ length-append xs ys in
@@ -432,40 +334,40 @@ all_fit (fig ∷ gs) h fs =
 
 -- ---- a taken block
 
-pub record TakenBlock (fib : List ℕ) (fs : List Carried) : Type 0 where
+pub record TakenBlock (fib : List ℕ) (fs : List Field) : Type 0 where
   pub size : length fib ≡ 32
   pub check : check_holds fib ≡ true
   pub parts : List (Placed Fig)
   pub walked : figs fib ≡ whole parts
-  pub fields : List (Placed Carried)
+  pub fields : List (Placed Field)
   pub filled : all_fields parts ≡ whole fields
-  pub values : some? wrong_carried fields ≡ false
-  pub starts : some? empty_carried fields ≡ false
+  pub values : some? wrong_value fields ≡ false
+  pub starts : some? empty_start fields ≡ false
   pub are : map what_of fields ≡ fs
 
-pub refused_taken {ℓ} : {C : Type ℓ} (o : Outcome) (p : ℕ) (fs : List Carried) → ◌≡◌ {A = Verdict} (refused o p) (taken fs) → C
+pub refused_taken {ℓ} : {C : Type ℓ} (o : Outcome) (p : ℕ) (fs : List Field) → ◌≡◌ {A = Verdict} (refused o p) (taken fs) → C
 refused_taken o p fs h = let z : ◌≡◌ {A = ℕ} 0 1 = cc in absurd (omega arith)
 
-pub no_block_taken {ℓ} : {C : Type ℓ} (fs : List Carried) → ◌≡◌ {A = Verdict} no_block (taken fs) → C
+pub no_block_taken {ℓ} : {C : Type ℓ} (fs : List Field) → ◌≡◌ {A = Verdict} no_block (taken fs) → C
 no_block_taken fs h = let z : ◌≡◌ {A = ℕ} 0 1 = cc in absurd (omega arith)
 
-pub fields-taken {ℓ} : {C : Type ℓ} (w : Walk (Placed Carried)) (fs : List Carried) → judge_fields w ≡ taken fs
-    → ((xs : List (Placed Carried)) → w ≡ whole xs → some? wrong_carried xs ≡ false → some? empty_carried xs ≡ false → map what_of xs ≡ fs → C) → C
+pub fields-taken {ℓ} : {C : Type ℓ} (w : Walk (Placed Field)) (fs : List Field) → judge_fields w ≡ taken fs
+    → ((xs : List (Placed Field)) → w ≡ whole xs → some? wrong_value xs ≡ false → some? empty_start xs ≡ false → map what_of xs ≡ fs → C) → C
 unfolding judge_fields
 fields-taken (broken p) fs h c = refused_taken _ _ fs h
 fields-taken {C = C} (whole xs) fs h c =
-    cond_cases (λ (v : Verdict). v ≡ taken fs → C) (some? wrong_carried xs) _ _ (λ v e. refused_taken _ _ fs e) (λ v.
-    cond_cases (λ (v : Verdict). v ≡ taken fs → C) (some? empty_carried xs) _ _ (λ s e. refused_taken _ _ fs e) (λ s e. c xs refl v s cc))
+    cond_cases (λ (v : Verdict). v ≡ taken fs → C) (some? wrong_value xs) _ _ (λ v e. refused_taken _ _ fs e) (λ v.
+    cond_cases (λ (v : Verdict). v ≡ taken fs → C) (some? empty_start xs) _ _ (λ s e. refused_taken _ _ fs e) (λ s e. c xs refl v s cc))
     h
 
-pub figs-taken {ℓ} : {C : Type ℓ} (w : Walk (Placed Fig)) (fs : List Carried) → judge_figs w ≡ taken fs
+pub figs-taken {ℓ} : {C : Type ℓ} (w : Walk (Placed Fig)) (fs : List Field) → judge_figs w ≡ taken fs
     → ((gs : List (Placed Fig)) → w ≡ whole gs → judge_fields (all_fields gs) ≡ taken fs → C) → C
 unfolding judge_figs
 figs-taken (broken p) fs h c = refused_taken _ _ fs h
 figs-taken (whole gs) fs h c = c gs refl h
 
 -- what is known of a block that is taken
-pub taken_block : (fib : List ℕ) (fs : List Carried) → verdict fib ≡ taken fs → TakenBlock fib fs
+pub taken_block : (fib : List ℕ) (fs : List Field) → verdict fib ≡ taken fs → TakenBlock fib fs
 unfolding verdict
 taken_block fib fs =
     cond_cases (λ (v : Verdict). v ≡ taken fs → TakenBlock fib fs) (eqb (length fib) 32) _ _
@@ -487,7 +389,7 @@ taken_block fib fs =
     (λ l e. no_block_taken fs e)
 
 -- a taken block has at most 14 fields
-pub taken_few : (fib : List ℕ) (fs : List Carried) → verdict fib ≡ taken fs → length fs ≤ 14
+pub taken_few : (fib : List ℕ) (fs : List Field) → verdict fib ≡ taken fs → length fs ≤ 14
 taken_few fib fs h =
     let b = taken_block fib fs h in
     let n = figs_inside fib 0 b.parts b.size (omega arith) (figs_goes fib b.parts b.walked) in
@@ -508,7 +410,7 @@ pub record GoodField (f : Field) : Type 0 where
   pub data_dab : f.pd ≡ 1 → f.qualifier ≡ 0
   pub start : has_list f ≡ true → is_continuation f ≡ false → 1 ≤ length f.numbers
 
-pub none_of : (p : Carried → Bool) (fs : List (Placed Carried)) → some? p fs ≡ false → Every (λ f. p f.what ≡ false) fs
+pub none_of : (p : Field → Bool) (fs : List (Placed Field)) → some? p fs ≡ false → Every (λ f. p f.what ≡ false) fs
 unfolding some?
 none_of p [] h = tt
 none_of p (f ∷ fs) h = (or_false_left (p f.what) (some? p fs) h, none_of p fs (or_false_right (p f.what) (some? p fs) h))
@@ -538,46 +440,20 @@ good_field f b v s =
       start = good_start f s;
     }
 
--- of either family
-abbrev pub GoodCarried : Carried → Type 0
-GoodCarried (linking f) = GoodField f
-GoodCarried (service f) = ServiceBits f
-
-pub good_carried : (f : Carried) → CarriedBits f → wrong_carried f ≡ false → empty_carried f ≡ false → GoodCarried f
-unfolding wrong_carried empty_carried
-good_carried (linking f) b v s = good_field f b v s
-good_carried (service f) b v s = b
-
 -- every field of a taken block of bytes is such
-pub taken_carried : (fib : List ℕ) (fs : List Carried) → Bytes fib → verdict fib ≡ taken fs → Every GoodCarried fs
-taken_carried fib fs bytes h =
+pub taken_good : (fib : List ℕ) (fs : List Field) → Bytes fib → verdict fib ≡ taken fs → Every GoodField fs
+taken_good fib fs bytes h =
     let b = taken_block fib fs h in
-    let Bits : Placed Carried → Type 0 = λ f. CarriedBits f.what in
-    let Right : Placed Carried → Type 0 = λ f. (wrong_carried f.what ≡ false) × (empty_carried f.what ≡ false) in
+    let Bits : Placed Field → Type 0 = λ f. FieldBits f.what in
+    let Right : Placed Field → Type 0 = λ f. (wrong_value f.what ≡ false) × (empty_start f.what ≡ false) in
     let bits : Every Bits b.fields =
     all_every Bits b.parts
-    (figs_every (λ fig. (xs : List (Placed Carried)) → fields_of fig ≡ whole xs → Every Bits xs) fib
-    (λ fig q s. fields_every Bits fig (λ p f r e at. (carried_item fig.what p f.what r e).bits (body_bytes fib fig.place fig.what q bytes s)))
+    (figs_every (λ fig. (xs : List (Placed Field)) → fields_of fig ≡ whole xs → Every Bits xs) fib
+    (λ fig q s. fields_every Bits fig (λ p f r e at. (field_item fig.what.body p f.what r e).bits (body_bytes fib fig.place fig.what q bytes s)))
     b.parts b.size b.walked)
     b.fields b.filled in
     let right : Every Right b.fields =
-    every_both _ _ Right (λ f v s. (v, s)) b.fields (none_of wrong_carried b.fields b.values) (none_of empty_carried b.fields b.starts) in
-    subst (Every GoodCarried) b.are
-    (every_map GoodCarried what_of b.fields
-    (every_both Bits Right (λ f. GoodCarried f.what) (λ f c r. good_carried f.what c r.0 r.1) b.fields bits right))
-
--- so is each of its linking fields, and each of its fields of services
-pub good_linking : (fs : List Carried) → Every GoodCarried fs → Every GoodField (linking_in fs)
-unfolding linking_in
-good_linking [] g = tt
-good_linking (linking f ∷ fs) g = (g.0, good_linking fs g.1)
-good_linking (service f ∷ fs) g = good_linking fs g.1
-
-pub good_services : (fs : List Carried) → Every GoodCarried fs → Every ServiceBits (services_in fs)
-unfolding services_in
-good_services [] g = tt
-good_services (linking f ∷ fs) g = good_services fs g.1
-good_services (service f ∷ fs) g = (g.0, good_services fs g.1)
-
-pub taken_good : (fib : List ℕ) (fs : List Carried) → Bytes fib → verdict fib ≡ taken fs → Every GoodField (linking_in fs)
-taken_good fib fs b h = good_linking fs (taken_carried fib fs b h)
+    every_both _ _ Right (λ f v s. (v, s)) b.fields (none_of wrong_value b.fields b.values) (none_of empty_start b.fields b.starts) in
+    subst (Every GoodField) b.are
+    (every_map GoodField what_of b.fields
+    (every_both Bits Right (λ f. GoodField f.what) (λ f c r. good_field f.what c r.0 r.1) b.fields bits right))

@@ -2,12 +2,10 @@
 -- set begins with one. No contract cites these; proofs/Before.antt says what of them still holds.
 use Rattle.std.specs.Prelude.{ℕ, zero, suc, ◌/◌, Bool, true, cond, ◌&&◌, List, [], ◌∷◌, map, length, take, drop, leb, ltb, eqb}
 use Rattle.rules.specs.declared.Outcome.TheVariants.{Done}
-use Rattle.rules.specs.declared.Note.{Note}
 use Rattle.rules.specs.Field.{Field, key_of, Pair, pair, dab, start_pairs, named_by, has_list, is_continuation}
-use Rattle.rules.specs.Family.{start, continuation, no_list, Said, step, Rules, table_meets}
-use Rattle.rules.specs.Services.{services_meet}
-use Rattle.rules.specs.Collecting.{linkage, IdSet, Content, with_sets, after_block, is_key, key_width, not_empty, all_differ, pairs_meet, names_meet, number_meets, numbers_within, most_ids, most_blocks}
-use Rattle.rules.specs.Outcomes.{Carried, linking, service, Verdict, taken, refused, no_block, verdict, heard, Answer, answer_to}
+use Rattle.rules.specs.Family.{start, continuation, no_list, Said, steps, Rules, table_meets}
+use Rattle.rules.specs.Collecting.{linkage, IdSet, Content, next_block, after_block, is_key, key_width, not_empty, all_differ, pairs_meet, names_meet, number_meets, numbers_within, most_ids, most_blocks}
+use Rattle.rules.specs.Outcomes.{Verdict, taken, refused, no_block, verdict, Answer, answer_to}
 
 -- ---- reading
 
@@ -27,23 +25,11 @@ said_before n f =
       stamp = n;
     }
 
--- fields of a block; those of services have not changed
-unfoldable pub heard_before : Content → Carried → Content × Note
-heard_before t (linking f) = let r = step linkage t.sets (said_before t.blocks f) in (with_sets t r.0, r.1)
-heard_before t (service f) = heard t (service f)
-
-unfoldable pub heard_all_before : Content → List Carried → Content × List Note
-heard_all_before t [] = (t, [])
-heard_all_before t (f ∷ fs) =
-    let r = heard_before t f in
-    let s = heard_all_before r.0 fs in
-    (s.0, r.1 ∷ s.1)
-
 -- a block: what is refused has not changed
 unfoldable pub answer_before : Content → Verdict → Answer
 answer_before t (taken fs) =
-    let r = heard_all_before (after_block t t.sets t.services) fs in
-    record { outcome = Done; place = 0; notes = r.1; left = r.0 }
+    let r = steps linkage t.sets (map (said_before (next_block t.blocks)) fs) in
+    record { outcome = Done; place = 0; notes = r.1; left = after_block t r.0 }
 answer_before t (refused o p) = answer_to t (refused o p)
 answer_before t no_block = answer_to t no_block
 
@@ -79,4 +65,4 @@ rules_before =
     }
 
 unfoldable pub met_before : Content → Bool
-met_before t = table_meets linkage rules_before t.sets && numbers_within t.blocks t.sets && leb t.blocks most_blocks && services_meet t.services
+met_before t = table_meets linkage rules_before t.sets && numbers_within t.blocks t.sets && leb t.blocks most_blocks

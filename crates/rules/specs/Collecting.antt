@@ -1,9 +1,8 @@
--- Collecting (document 01): linkage sets as an instance of the family, what a table holds, and the table rules.
+-- Collecting (document 01): linkage sets as an instance of the family, copying out, and the table rules.
 use Rattle.std.specs.Prelude.{ℕ, ◌+◌, ◌*◌, ◌/◌, ◌%◌, ◌^◌, max, min, Bool, true, false, not, cond, ◌&&◌, ◌||◌, List, [], ◌∷◌, length, leb, ltb, eqb}
 use Rattle.std.proofs.Math.Option.{Option, none, some}
 use Rattle.rules.specs.Field.{Field, key_of, Pair, first_kind, pairs_of, named_by, has_list, is_continuation, width, dab, rds, drm}
 use Rattle.rules.specs.Family.{Family, Listed, Act, start, continuation, no_list, Said, Entry, items_differ, Rules, maybe_meets, held_meets, goes_up, all_meet, table_meets}
-use Rattle.rules.specs.Services.{ServiceEntries, services_meet}
 
 -- ---- the family of linkage sets
 
@@ -54,32 +53,28 @@ Held = Entry linkage
 abbrev pub Entries : Type 0
 Entries = List Held
 
--- what a table holds: its sets, its services (document 02, R-4), and how many blocks it has counted
+-- what a table holds: its sets, and how many blocks it has counted
 pub record Content : Type 0 where
   pub sets : Entries
-  pub services : ServiceEntries
   pub blocks : ℕ
 
--- a table that holds nothing; one that holds these sets alone; a table with other sets, and one with other services
+-- a table that holds nothing; one that holds these sets alone; a table with other sets
 abbrev pub nothing : Content
-nothing = record { sets = []; services = []; blocks = 0 }
+nothing = record { sets = []; blocks = 0 }
 
 abbrev pub just_sets : Entries → Content
-just_sets s = record { sets = s; services = []; blocks = 0 }
+just_sets s = record { sets = s; blocks = 0 }
 
 abbrev pub with_sets : Content → Entries → Content
-with_sets t s = record { sets = s; services = t.services; blocks = t.blocks }
-
-abbrev pub with_services : Content → ServiceEntries → Content
-with_services t v = record { sets = t.sets; services = v; blocks = t.blocks }
+with_sets t s = record { sets = s; blocks = t.blocks }
 
 -- blocks are numbered from 1: the number of the block after so many
 unfoldable pub next_block : ℕ → ℕ
 next_block n = min (n + 1) most_blocks
 
--- a table after one block more, with other sets and services
-abbrev pub after_block : Content → Entries → ServiceEntries → Content
-after_block t s v = record { sets = s; services = v; blocks = next_block t.blocks }
+-- a table after one block more, with other sets
+abbrev pub after_block : Content → Entries → Content
+after_block t s = record { sets = s; blocks = next_block t.blocks }
 
 -- what a field brings
 unfoldable pub brings : Field → IdSet
@@ -185,9 +180,9 @@ unfoldable pub numbers_within : ℕ → Entries → Bool
 numbers_within n [] = true
 numbers_within n (e ∷ es) = leb e.stamp n && numbers_within n es
 
--- the table rules: those of the sets, no number above the table's own count, a count that is stored, and the rules of the services
+-- the table rules: those of the sets, no number above the table's own count, and a count that is stored
 unfoldable pub meets : Content → Bool
-meets t = sets_meet t.sets && numbers_within t.blocks t.sets && leb t.blocks most_blocks && services_meet t.services
+meets t = sets_meet t.sets && numbers_within t.blocks t.sets && leb t.blocks most_blocks
 
 -- ---- what a table shows
 

@@ -1,6 +1,6 @@
 -- The linking field (document 01): what a type 0 FIG with extension 6 is made of, field by field.
 use Rattle.std.specs.Prelude.{ℕ, zero, suc, ◌+◌, ◌*◌, ◌/◌, ◌%◌, Bool, not, cond, ◌&&◌, ◌||◌, List, [], ◌∷◌, map, length, get_or, take, drop, leb, ltb, eqb}
-use Rattle.rules.specs.Block.{Step, item, end, wrong, Fig}
+use Rattle.rules.specs.Block.{Step, item, end, wrong, Placed, Walk, walk, Fig}
 
 -- ---- the FIG's own byte: C/N, OE, P/D, extension
 
@@ -92,6 +92,10 @@ field_at body place =
     (item
     (list_field (get_or body 0 0) (get_or body place 0) (get_or body (place + 1) 0) (get_or body (place + 2) 0) (drop (place + 3) body))
     (place + 3 + list_bytes (get_or body 0 0) (get_or body place 0) (get_or body (place + 2) 0)))))))
+
+-- the fields that fill a linking FIG, after its body's first byte; the body begins one byte after the FIG
+unfoldable pub fields_of : Placed Fig → Walk (Placed Field)
+fields_of fig = walk (fig.place + 1) (field_at fig.what.body) (length fig.what.body) 1
 
 -- ---- what a field says
 

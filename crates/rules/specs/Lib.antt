@@ -4,10 +4,8 @@
 pub mod Block
 pub mod Field
 pub mod Family
-pub mod Services
 pub mod Collecting
 pub mod Outcomes
-pub mod Alone
 pub mod Receptions
 pub mod Numbers
 pub mod Arrays

@@ -1,14 +1,13 @@
 -- Numbers (document 02, R-9), over a family where the number of a block is the stamp of its fields. In this order: the field at a place of a
 -- reception; the last field at which a set of a key came to be shown; entries, fields and readings apart from their stamps, which is
 -- reading as it was before R-9.
-use Rattle.std.specs.Prelude.{ℕ, zero, suc, ◌<◌, ◌≡◌, ◌⊎◌, List, [], ◌∷◌, map}
+use Rattle.std.specs.Prelude.{ℕ, zero, suc, ◌/◌, ◌<◌, ◌≡◌, ◌⊎◌, List, [], ◌∷◌, map, length, take, drop}
 use Rattle.std.proofs.Math.Option.{Option, none, some}
 use Rattle.std.proofs.Math.ListN.{get_elem?}
-use Rattle.rules.specs.Family.{Family, Listed, Said, Entry, find}
+use Rattle.rules.specs.Family.{Family, Listed, Said, Entry, find, steps, drop_open}
 use Rattle.rules.specs.Receptions.{Op, said_in, ShowsRun}
 use Rattle.rules.specs.Collecting.{linkage, Entries, said}
-use Rattle.rules.specs.Outcomes.{Carried, linking_in}
-use Rattle.rules.specs.Alone.{alone_recording}
+use Rattle.rules.specs.Outcomes.{Verdict, taken, refused, no_block, verdict}
 
 module _ (F : Family) where
   open F use {Key, State, Stamp, unstamped}
@@ -40,9 +39,14 @@ module _ (F : Family) where
 
 -- ---- blocks read apart from numbers
 
--- what the linking fields of a block say in a block without a number
-abbrev pub plain_said : List Carried → List (Said linkage)
-plain_said fs = map (said 0) (linking_in fs)
+unfoldable pub plain_after : Entries → Verdict → Entries
+plain_after t (taken fs) = (steps linkage t (map (said 0) fs)).0
+plain_after t (refused o p) = drop_open linkage t
+plain_after t no_block = t
 
-abbrev pub plain_recording : Entries → List ℕ → Entries
-plain_recording t bytes = alone_recording linkage plain_said t bytes
+unfoldable pub plain_blocks : ℕ → Entries → List ℕ → Entries
+plain_blocks zero t bytes = t
+plain_blocks (suc n) t bytes = plain_blocks n (plain_after t (verdict (take 32 bytes))) (drop 32 bytes)
+
+unfoldable pub plain_recording : Entries → List ℕ → Entries
+plain_recording t bytes = plain_blocks (length bytes / 32) t bytes

@@ -21,8 +21,6 @@ use Rattle.totals.specs.Totals.{totals_of}
 use Rattle.totals.specs.Kept.{kept_up}
 use Rattle.totals.proofs.Laws.{kept_sums}
 use Rattle.table.specs.declared.Table.{Table}
-use Rattle.services.specs.declared.Services.{Services}
-use Rattle.services.specs.Stored.{store_services}
 use Rattle.table.specs.Stored.{table_of, store_table}
 use Rattle.sheet.specs.declared.ReadNumber.TheVariants as number
 use Rattle.sheet.specs.declared.ReadSets.{ReadSets}
@@ -87,13 +85,12 @@ module _ (bytes : List ℕ) (byte : Bytes bytes) where
           let m = sets_some _ s l t in
           loads_by bytes byte none r (then_go _ _ (number_some _ count place n) ∙ then_go _ _ m.there ∙ rw (ne_eqb s.next (length bytes) d)) e
 
-      pub load_made : s.ok ≡ true → s.next ≡ length bytes → (v : Services) → v ≡ store_services [] → (u : Table) → u ≡ table_of s.sets s.totals 0 v → Loads bytes (record { outcome = Done; table = u })
+      pub load_made : s.ok ≡ true → s.next ≡ length bytes → (u : Table) → u ≡ table_of s.sets s.totals 0 → Loads bytes (record { outcome = Done; table = u })
       unfolding parse_sheet loaded_as totals_of
-      load_made t d v w u q =
+      load_made t d u q =
           let m = sets_some _ s l t in
           let parsed : parse_sheet bytes ≡ some (just_sets m.value) =
           then_go _ _ (number_some _ count place n) ∙ then_go _ _ m.there ∙ rw (eq-eqb s.next (length bytes) d) in
           let r = (table_rules m.value).0 (sets_meet_law _ (sheet_read bytes _ byte parsed).rules) in
           loads_by bytes byte (some (just_sets m.value)) _ parsed
-          (let n = m.totals_are ∙ kept_sums m.value r.entries r.short in
-          λ i. record { outcome = Done; table = (q ∙ (λ j. table_of (m.sets_are j) (n j) 0 (w j))) i })
+          (λ i. record { outcome = Done; table = (q ∙ ap₂ (λ (x : Sets) (n : Totals). table_of x n 0) m.sets_are (m.totals_are ∙ kept_sums m.value r.entries r.short)) i })

@@ -18,7 +18,6 @@ ghost use Rattle.sheet.specs.Loading.{not_loaded, Loads};
 use lists::IdList;
 use out::{Written, put};
 use rules::Outcome;
-use services::Services;
 use sets::Sets;
 use table::Table;
 use totals::Totals;
@@ -617,6 +616,6 @@ pub fn load_sheet(bytes: &[u8]) -> Loaded
     let totals = read.totals;
     Loaded {
         outcome: Outcome::Done,
-        table: Table::of(sets, totals, 0, Services::empty()),
+        table: Table::of(sets, totals, 0),
     }
 }

@@ -1,4 +1,4 @@
--- The test of a table: its sets, its numbers, its totals, its services; what a function that is given a table owes, by the answer of that test; forgetting a key; copying a set out.
+-- The test of a table: its sets, its numbers, its totals; what a function that is given a table owes, by the answer of that test; forgetting a key; copying a set out.
 use Prim.Native.Nat.{ℕ, zero, suc, ◌-◌, ◌<◌, ◌≤◌}
 use native.Mathlib.Omega.{arith}
 use mathlib.Core.Path.{◌≡◌, refl, sym, ap, ap₂, ◌∙◌, subst}
@@ -24,8 +24,6 @@ use Rattle.sets.specs.Places.{place_in}
 use Rattle.sets.proofs.Entries.{Here, no_entry, entry_at_law}
 use Rattle.sets.proofs.PlaceLaws.{place_at, store_forgets, Roomy, stored_short, stored_shown}
 use Rattle.sets.proofs.Contents.{store_injective}
-use Rattle.services.specs.Stored.{ServicesStored}
-use Rattle.services.proofs.Contents as Services
 use Rattle.totals.specs.declared.Totals.{Totals}
 use Rattle.totals.specs.Totals.{totals_of}
 use Rattle.totals.specs.Kept.{without_set, totals_in, same_totals}
@@ -36,15 +34,11 @@ use Rattle.table.specs.Stored.{table_of, store_table, Stored, Given, stored, not
 use Rattle.table.specs.Answers.{forgotten_as, copied_as, all_within, copy_stored}
 use Rattle.table.proofs.Copies.{copy_stored_law}
 
--- ---- the test of a table is that of its sets, that of their numbers, that of its totals and that of its services
+-- ---- the test of a table is that of its sets, that of their numbers and that of its totals
 
 pub sets_stored : (t : Table) → Stored t → SetsStored t.sets
 unfolding SetsStored Stored
 sets_stored t s = (s.0.sets, sets_meet_law s.0 s.1, ap (λ (u : Table). u.sets) s.2)
-
-pub services_stored : (t : Table) → Stored t → ServicesStored t.services
-unfolding ServicesStored Stored
-services_stored t s = (s.0.services, ((content_meets s.0).0 s.1).services, ap (λ (u : Table). u.services) s.2)
 
 -- the totals of a stored table are those of its sets
 pub totals_stored : (t : Table) → Stored t → t.totals ≡ totals_in t.sets
@@ -75,19 +69,18 @@ numbers_stored t s =
     within_stored t.blocks t.sets s.0.sets (ap (λ (u : Table). u.sets) s.2)
     ∙ ap (λ (u : Table). numbers_within u.blocks s.0.sets) s.2 ∙ (numbers_within_law s.0.blocks s.0.sets).1 m.within
 
--- and a table of which all four hold is stored
+-- and a table of which all three hold is stored
 all_stored : (t : Table) → t.blocks ≤ most_blocks → SetsStored t.sets → all_within t.blocks t.sets.confirmed ≡ true
-    → t.totals ≡ totals_in t.sets → ServicesStored t.services → Stored t
-unfolding SetsStored ServicesStored Stored totals_of
-all_stored t b s w n v = (
-  record { sets = s.0; services = v.0; blocks = t.blocks },
+    → t.totals ≡ totals_in t.sets → Stored t
+unfolding SetsStored Stored totals_of
+all_stored t b s w n = (
+  record { sets = s.0; blocks = t.blocks },
   (content_meets _).1 (record {
     sets = s.1;
     within = (numbers_within_law t.blocks s.0).0 (sym (within_stored t.blocks t.sets s.0 s.2) ∙ w);
     most = b;
-    services = v.1;
   }),
-  (let n' = n ∙ ap totals_in s.2 ∙ sums_stored s.0 s.1 in λ i. table_of (s.2 i) (n' i) t.blocks (v.2 i)),
+  ap₂ (λ (x : Sets) (y : Totals). table_of x y t.blocks) s.2 (n ∙ ap totals_in s.2 ∙ sums_stored s.0 s.1),
 )
 
 module _ (t : Table) {b : Bool} (w : Tested b (SetsStored t.sets)) where
@@ -97,15 +90,12 @@ module _ (t : Table) {b : Bool} (w : Tested b (SetsStored t.sets)) where
   pub tested_numbers : {n : Bool} → n ≡ all_within t.blocks t.sets.confirmed → n ≡ false → Tested false (Stored t)
   tested_numbers q f = record { sound = λ e. absurd (false≢true e); complete = λ s. sym f ∙ q ∙ numbers_stored t s }
 
-  pub tested_totals : {n : Bool} → n ≡ same_totals t.totals (totals_in t.sets) → n ≡ false → Tested false (Stored t)
-  tested_totals q f = record { sound = λ e. absurd (false≢true e); complete = λ s. sym f ∙ q ∙ is_same _ _ (totals_stored t s) }
-
-  pub tested_services : t.blocks ≤ most_blocks → b ≡ true → {n : Bool} → n ≡ all_within t.blocks t.sets.confirmed → n ≡ true
-      → {m : Bool} → m ≡ same_totals t.totals (totals_in t.sets) → m ≡ true → {r : Bool} → Tested r (ServicesStored t.services) → Tested r (Stored t)
-  tested_services most f p g q h v =
+  pub tested_totals : t.blocks ≤ most_blocks → b ≡ true → {n : Bool} → n ≡ all_within t.blocks t.sets.confirmed → n ≡ true
+      → {r : Bool} → r ≡ same_totals t.totals (totals_in t.sets) → Tested r (Stored t)
+  tested_totals most f p g q =
       record {
-        sound = λ e. all_stored t most (w.sound f) (sym p ∙ g) (same_is _ _ (sym q ∙ h)) (v.sound e);
-        complete = λ s. v.complete (services_stored t s);
+        sound = λ e. all_stored t most (w.sound f) (sym p ∙ g) (same_is _ _ (sym q ∙ e));
+        complete = λ s. q ∙ is_same _ _ (totals_stored t s);
       }
 
 pub given_wrong : {t : Table} {right : Content → Type 0} {otherwise : Type 0} {b : Bool} → Tested b (Stored t) → b ≡ false → otherwise → Given t right otherwise
@@ -127,8 +117,7 @@ given_content {right = right} c m s (stored d f p a) = subst right (store_conten
     store_content : (c d : Content) → meets c ≡ true → meets d ≡ true → store_table c ≡ store_table d → c ≡ d
     store_content c d f g e =
         let s = store_injective c.sets d.sets (sets_meet_law c f) (sets_meet_law d g) (ap (λ (u : Table). u.sets) e) in
-        let v = Services.store_injective c.services d.services ((content_meets c).0 f).services ((content_meets d).0 g).services (ap (λ (u : Table). u.services) e) in
-        λ i. record { sets = s i; services = v i; blocks = (e i).blocks }
+        λ i. record { sets = s i; blocks = (e i).blocks }
 given_content c m s (not_stored n a) = absurd (n (c, m, s))
 
 -- how many keys
@@ -203,11 +192,11 @@ module _ (t : Table) (c : Content) (m : meets c ≡ true) (e : t ≡ store_table
 
     pub forgets_held : (left : Sets) → left ≡ shut_sets t.sets at
         → (n : Totals) → n ≡ without_set t.totals (get_or t.sets.shown at past).len (get_or t.sets.on at false)
-        → (u : Table) → u ≡ table_of left n t.blocks t.services → record { outcome = Done; table = u } ≡ forgotten_as k c
+        → (u : Table) → u ≡ table_of left n t.blocks → record { outcome = Done; table = u } ≡ forgotten_as k c
     unfolding forgotten_as forget_outcome held_or forgotten
     forgets_held left q n v u r =
         let l : u ≡ store_table (forgotten k c) =
-        r ∙ (λ j. table_of ((q ∙ store_forgets t.sets c.sets sets_are k at p ((table_rules c.sets).0 (sets_meet_law c m)).short h) j) (totals_are n v j) (e j).blocks (e j).services) in
+        r ∙ (λ j. table_of ((q ∙ store_forgets t.sets c.sets sets_are k at p ((table_rules c.sets).0 (sets_meet_law c m)).short h) j) (totals_are n v j) (e j).blocks) in
         let o : Done ≡ held_or (find linkage k c.sets) Done = sym (ap (λ (f : Option Held). held_or f Done) (find_here linkage lawful no_entry c.sets k h)) in
         λ j. record { outcome = o j; table = l j }
 

@@ -3,19 +3,17 @@ use Rattle.std.specs.Prelude.{ℕ, ◌≡◌, true}
 use Rattle.rules.specs.Collecting.{Content, meets}
 use Rattle.sets.specs.declared.Sets.{Sets}
 use Rattle.sets.specs.Stored.{store_sets}
-use Rattle.services.specs.declared.Services.{Services}
-use Rattle.services.specs.Stored.{store_services}
 use Rattle.totals.specs.declared.Totals.{Totals}
 use Rattle.totals.specs.Totals.{totals_of}
 use Rattle.table.specs.declared.Table.{Table}
 
--- a table with these sets, totals, blocks and services, and nothing else
-abbrev pub table_of : Sets → Totals → ℕ → Services → Table
-table_of s n b v = record { sets = s; totals = n; blocks = b; services = v }
+-- a table with these sets, totals and blocks, and nothing else
+abbrev pub table_of : Sets → Totals → ℕ → Table
+table_of s n b = record { sets = s; totals = n; blocks = b }
 
--- a content: its sets, the sums over those that it shows, its count of blocks, and its services
+-- a content: its sets, the sums over those that it shows, and its count of blocks
 abbrev pub store_table : Content → Table
-store_table c = record { sets = store_sets c.sets; totals = totals_of c; blocks = c.blocks; services = store_services c.services }
+store_table c = record { sets = store_sets c.sets; totals = totals_of c; blocks = c.blocks }
 
 -- a table is the stored form of a content that meets the rules
 unfoldable pub Stored : Table → Type 0

@@ -1,5 +1,5 @@
 // The table of linkage sets (document 01, Collecting): its limits, its empty table, the test of the table rules, its totals
-// (document 02, R-7), its count of blocks (R-9), its services (R-4), forgetting a key and copying a set out. Every function is proved and none that is
+// (document 02, R-7), its count of blocks (R-9), forgetting a key and copying a set out. Every function is proved and none that is
 // `pub` has a `requires`. The stored form is store_table of specs/Stored.antt; what a table may hold is `meets` of crate rules.
 
 ghost use Rattle.std.specs.Prelude.{◌≡◌, Bool, length, take, ◌≤◌};
@@ -12,18 +12,15 @@ ghost use Rattle.table.specs.Answers.{forgotten_as, copied_as, all_within, copy_
 
 use lists::IdList;
 use rules::Outcome;
-use services::Services;
 use sets::Sets;
 use totals::Totals;
 
-// What a table holds: its sets, the totals of those that it shows, how many blocks were read into it, and the services in other
-// ensembles, which stand apart.
+// What a table holds: its sets, the totals of those that it shows, and how many blocks were read into it.
 #[derive(Drop)]
 pub struct Table {
     pub sets: Sets,
     pub totals: Totals,
     pub blocks: u32,
-    pub services: Services,
 }
 
 // Whether none of these numbers is above another.
@@ -48,15 +45,14 @@ impl Table {
     // The number at which its count of blocks stops.
     pub const BLOCKS: u32 = 4294967295;
 
-    // The table with these sets, totals, blocks and services and nothing else.
-    pub fn of(sets: Sets, totals: Totals, blocks: u32, services: Services) -> Self
-        ensures { result ≡ table_of sets totals blocks services }
+    // The table with these sets, totals and blocks and nothing else.
+    pub fn of(sets: Sets, totals: Totals, blocks: u32) -> Self
+        ensures { result ≡ table_of sets totals blocks }
     {
         Self {
             sets,
             totals,
             blocks,
-            services,
         }
     }
 
@@ -64,7 +60,7 @@ impl Table {
     pub fn empty() -> Self
         ensures { result ≡ store_table nothing }
     {
-        Self::of(Sets::empty(), Totals::none(), 0, Services::empty())
+        Self::of(Sets::empty(), Totals::none(), 0)
     }
 
     // Whether this is the stored form of a content that meets the table rules.
@@ -79,11 +75,7 @@ impl Table {
             return false;
         }
         let totals = self.totals;
-        if !totals.are_of(sets) {
-            return false;
-        }
-        let services = self.services;
-        services.meets()
+        totals.are_of(sets)
     }
 }
 
@@ -147,10 +139,9 @@ pub fn forget_key(table: Table, key: u32) -> Forgotten
     let gone = sets.shown[at];
     let totals = table.totals;
     let rest = totals.without(gone.len, sets.on[at]);
-    let services = table.services;
     Forgotten {
         outcome: Outcome::Done,
-        table: Table::of(left, rest, table.blocks, services),
+        table: Table::of(left, rest, table.blocks),
     }
 }
 

@@ -1,7 +1,7 @@
--- `air::byte_at` meets its contract: eight bits to a byte, and none past the fourth.
+-- `air::byte_at` meets its contract: eight bits to a byte.
 use Prim.Native.Nat.{ℕ, ◌/◌, ◌%◌}
 use mathlib.Core.Path.{ap}
-use Rattle.air.proofs.Blocks.{eight_bits, high_byte}
+use Rattle.air.proofs.Blocks.{eight_bits}
 use borrow.Author.Rules.{rules}
 use Rattle.air.proofs.byte_at.Statement.{statement}
 use Rattle.air.proofs.byte_at.Tie as tie
@@ -19,10 +19,7 @@ cast_result_2 : tie.Need-overflow-cast-result-2
 cast_result_2 c = search rules
 
 returns : tie.Need-returns
-returns c = ap (λ (m : ℕ). c.before.args.n / m % 256) (eight_bits c.before.args.place)
-
-returns_2 : tie.Need-returns-2
-returns_2 c = high_byte c.before.args.n c.before.args.place (search rules) c.if1.false
+returns c = ap (λ (m : ℕ). c.args.n / m % 256) (eight_bits c.args.place)
 
 pub byte_at_spec : {M : Type 1} → statement M
-byte_at_spec = tie.close (tie.spec mul_result cast_result shr_result cast_result_2 returns returns_2)
+byte_at_spec = tie.close (tie.spec mul_result cast_result shr_result cast_result_2 returns)

@@ -6,6 +6,7 @@ use Rattle.rules.specs.Collecting.{key_width}
 use Rattle.pieces.proofs.Cutting.{most_small}
 use Rattle.out.proofs.Runs.{puts_then, puts_as}
 use Rattle.pieces.proofs.BlockBack.{ids_few}
+use Rattle.rules.proofs.TableRules.{width_most}
 use Rattle.air.proofs.Blocks.{fig_made}
 use borrow.Author.Rules.{rules}
 use Rattle.air.proofs.put_fig.Statement.{statement}
@@ -105,7 +106,7 @@ put_bytes_requires c κs = search rules
 put_numbers_requires : tie.Need-put-numbers-requires
 put_numbers_requires c κs =
     let s = c.before.before.before.before.before.before.before.before.before.before.before.before in
-    (s.requires.ahead, s.requires.inside)
+    (omega (arith, c.before.before.before.before.before.before.before.before.before.width_of_lem.ensures, width_most s.args.key), s.requires.ahead, s.requires.inside)
 
 same_length : tie.Need-same-length
 same_length c = search rules

@@ -43,7 +43,7 @@ loop_again c =
     let b = c.before.before.before.before.before.before in
     let s = b.before.before.before.before in
     let more : slice b.loop.i s.args.to s.args.numbers.now ≡ _ =
-    slice-cons b.loop.i s.args.to s.args.numbers.now 0 c.before.before.before.before.before.loop-test.true s.requires.1 in
+    slice-cons b.loop.i s.args.to s.args.numbers.now 0 c.before.before.before.before.before.loop-test.true s.requires.2 in
     (omega arith, going_on (rw (add-one b.loop.i) (ap (all_bytes s.args.width) more)) b.loop.invariant.1 c.before.before.put-number.ensures)
 
 same_length : tie.Need-same-length invariant_loop decreases_loop

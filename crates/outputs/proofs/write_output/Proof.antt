@@ -58,18 +58,6 @@ enum_told_9 c = search rules
 write_air_requires : tie.Need-write-air-requires
 write_air_requires c κs = search rules
 
-enum_told_10 : tie.Need-enum-told-10
-enum_told_10 c = search rules
-
-write_service_listing_requires : tie.Need-write-service-listing-requires
-write_service_listing_requires c κs = search rules
-
-enum_told_11 : tie.Need-enum-told-11
-enum_told_11 c = search rules
-
-write_services_requires : tie.Need-write-services-requires
-write_services_requires c κs = search rules
-
 same_length : tie.Need-same-length
 same_length c = search rules
 
@@ -133,20 +121,6 @@ returns_9 : tie.Need-returns-9
 unfolding output_of
 returns_9 c = rw c.before.before.before.before.enum-told9.given.1 c.before.before.write-air.ensures
 
-same_length_10 : tie.Need-same-length-10
-same_length_10 c = search rules
-
-returns_10 : tie.Need-returns-10
-unfolding output_of
-returns_10 c = rw c.before.before.before.before.enum-told10.given.1 c.before.before.write-service-listing.ensures
-
-same_length_11 : tie.Need-same-length-11
-same_length_11 c = search rules
-
-returns_11 : tie.Need-returns-11
-unfolding output_of
-returns_11 c = rw c.before.before.before.before.enum-told11.given.1 c.before.before.write-services.ensures
-
 pub write_output_spec : {M : Type 1} → statement M
 write_output_spec =
     tie.close
@@ -169,10 +143,6 @@ write_output_spec =
     write_sheet_requires
     enum_told_9
     write_air_requires
-    enum_told_10
-    write_service_listing_requires
-    enum_told_11
-    write_services_requires
     same_length
     returns
     same_length_2
@@ -190,8 +160,4 @@ write_output_spec =
     same_length_8
     returns_8
     same_length_9
-    returns_9
-    same_length_10
-    returns_10
-    same_length_11
-    returns_11)
+    returns_9)

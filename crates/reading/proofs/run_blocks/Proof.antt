@@ -3,9 +3,7 @@
 use Prim.Native.Nat.{ℕ, ◌+◌, ◌-◌, ◌<◌, ◌^◌}
 use native.Mathlib.Omega.{arith}
 use mathlib.Core.Path.{ap, ◌≡◌, sym, ◌∙◌}
-use mathlib.Core.Bool.{false}
 use lib.ListN.{length, get_or, take, drop}
-use Rattle.rules.specs.Services.{most_services}
 use Rattle.rules.specs.Collecting.{most_keys}
 use Rattle.block.specs.declared.Spot.{Spot}
 use Rattle.block.specs.Judged.{no_spot}
@@ -13,77 +11,65 @@ use Rattle.block.proofs.Meaning.{body_at, says}
 use borrow.Author.Tests.{not-true, not-false}
 use Rattle.sets.specs.declared.Sets.{Sets}
 use Rattle.table.specs.Stored.{table_of}
-use Rattle.services.proofs.StoreLaws.{set_at}
 use Rattle.reading.specs.Gathered.{sets_of}
 use Rattle.reading.proofs.GatheredLaws.{row_size_law, part_long}
-use Rattle.reading.proofs.RunRows.{Kept, first_table, kept_first, draft_short, kept_held, kept_new, kept_same, kept_service, kept_service_new, kept_service_same, kept_taken, kept_refused, kept_refused_quiet, still_quiet, kept_end}
-use Rattle.reading.proofs.Turns.{Fits', fits_now, place_short, service_short, body_of, block_part, judged_few}
+use Rattle.reading.proofs.RunRows.{Kept, first_table, kept_first, draft_short, kept_held, kept_new, kept_same, kept_taken, kept_refused, kept_end}
+use Rattle.reading.proofs.Turns.{Fits', fits_now, place_short, body_of, block_part, judged_few}
 use borrow.Author.Rules.{rules}
 use Rattle.reading.proofs.run_blocks.Statement.{statement}
 use Rattle.reading.proofs.run_blocks.Tie as tie
 use Rattle.reading.proofs.run_blocks.Reads as reads
 use Rattle.reading.proofs.run_blocks.Lts as lts
 use Rattle.block.proofs.Spot.field.Reads as field-reads
-use Rattle.block.proofs.Spot.service_field.Reads as service-field-reads
 use Rattle.block.proofs.judge.Reads as judge-reads
 use Rattle.block.proofs.no_spots.Reads as no-spots-reads
-use Rattle.field.proofs.Field.key.Reads as Field-key-reads
-use Rattle.hearing.proofs.on_held.Reads as on-held-reads
-use Rattle.hearing.proofs.opens.Reads as opens-reads
-use Rattle.hearing.proofs.unheld_note.Reads as unheld-note-reads
-use Rattle.reading.proofs.Reply.none.Reads as Reply-none-reads
+use Rattle.field.proofs.Field.key.Reads as key_reads
 use Rattle.reading.proofs.Reply.noted.Reads as noted-reads
 use Rattle.reading.proofs.Reply.to.Reads as to_reads
 use Rattle.reading.proofs.confirmed_by.Reads as confirmed-by-reads
 use Rattle.reading.proofs.is_done.Reads as is-done-reads
 use Rattle.reading.proofs.next_block.Reads as next-block-reads
 use Rattle.reading.proofs.opened.Reads as opened-reads
-use Rattle.reading.proofs.opened_service.Reads as opened-service-reads
-use Rattle.reading.proofs.opens.Reads as opens-reads'
-use Rattle.reading.proofs.rows.Rows.none.Reads as rows-Rows-none-reads
-use Rattle.reading.proofs.rows.on_held.Reads as rows-on-held-reads
+use Rattle.reading.proofs.opens.Reads as opens-reads
+use Rattle.reading.proofs.rows.Rows.none.Reads as none_reads
+use Rattle.reading.proofs.Reply.none.Reads as none-reads-2
+use Rattle.reading.proofs.rows.on_held.Reads as on-held-reads
 use Rattle.reading.proofs.rows.row_at.Reads as row-at-reads
 use Rattle.reading.proofs.rows.scatter.Reads as scatter-reads
+use Rattle.sets.proofs.stands_at.Reads as stands-at-reads
 use Rattle.reading.proofs.sets_of.Reads as sets-of-reads
-use Rattle.reading.proofs.unheld_note.Reads as unheld-note-reads'
-use Rattle.servicefield.proofs.ServiceField.key.Reads as ServiceField-key-reads
-use Rattle.services.proofs.Services.closed.Reads as closed-reads
-use Rattle.services.proofs.place_of.Reads as place-of-reads
-use Rattle.services.proofs.stands_at.Reads as stands-at-reads
-use Rattle.sets.proofs.place_of.Reads as place-of-reads'
-use Rattle.sets.proofs.stands_at.Reads as stands-at-reads'
-use Rattle.table.proofs.Table.of.Reads as of-reads
-use Rattle.totals.proofs.Totals.exchanged.Reads as exchanged-reads
+use Rattle.reading.proofs.unheld_note.Reads as unheld-note-reads
+use Rattle.sets.proofs.place_of.Reads as place-of-reads
 
 abbrev invariant_loop : tie.invariant-loop
-invariant_loop bytes sn₀ sk₀ dn₀ dk₀ laid₀ totals₀ shown₀ draft₀ on₀ confirmed₀ blocks₀ services₀ open₀ closed reply₀ spots₀ from₀ at₀ i₀ sn sk dn dk laid totals shown draft on confirmed blocks services «open» reply spots from at i =
-    Kept bytes (table_of (sets_of laid₀ on₀ confirmed₀ sn₀ sk₀ shown₀ dn₀ dk₀ draft₀) totals₀ blocks₀ services₀) laid totals blocks services «open» on confirmed sn sk shown dn dk draft reply spots from at i
+invariant_loop bytes sn₀ sk₀ dn₀ dk₀ laid₀ totals₀ shown₀ draft₀ on₀ confirmed₀ blocks₀ closed reply₀ spots₀ from₀ at₀ i₀ sn sk dn dk laid totals shown draft on confirmed blocks reply spots from at i =
+    Kept bytes (table_of (sets_of laid₀ on₀ confirmed₀ sn₀ sk₀ shown₀ dn₀ dk₀ draft₀) totals₀ blocks₀) laid totals blocks on confirmed sn sk shown dn dk draft reply spots from at i
 
 abbrev decreases_loop : tie.decreases-loop
-decreases_loop bytes sn₀ sk₀ dn₀ dk₀ laid₀ totals₀ shown₀ draft₀ on₀ confirmed₀ blocks₀ services₀ open₀ closed reply₀ spots₀ from₀ at₀ i₀ sn sk dn dk laid totals shown draft on confirmed blocks services «open» reply spots from at i =
+decreases_loop bytes sn₀ sk₀ dn₀ dk₀ laid₀ totals₀ shown₀ draft₀ on₀ confirmed₀ blocks₀ closed reply₀ spots₀ from₀ at₀ i₀ sn sk dn dk laid totals shown draft on confirmed blocks reply spots from at i =
     (length bytes - at) + (spots.count - i)
 
 -- ---- contexts: what was known earlier on, from where the loop begins and from where a field's place is known
 
 -- the function's start
 abbrev start : (c : tie.At-loop invariant_loop decreases_loop) → tie.Start invariant_loop decreases_loop
-start c = c.before.before.before.before.before.before.before.before.before.before.before.before.before.before.before.before.before.before.before.before.before.before
+start c = c.before.before.before.before.before.before.before.before.before.before.before.before.before.before.before.before.before.before.before.before.before
 
 -- the turn at a field; its field read, its key, its place
-abbrev turn : (c : tie.After-stands-at2 invariant_loop decreases_loop) → tie.Then1 invariant_loop decreases_loop
-turn c = c.before.before.before.before.before.before.before.before.before.before.before.before.before.before.before
+abbrev turn : (c : tie.After-stands-at invariant_loop decreases_loop) → tie.Then1 invariant_loop decreases_loop
+turn c = c.before.before.before.before.before.before.before.before.before.before.before.before.before.before
 
-abbrev read : (c : tie.After-stands-at2 invariant_loop decreases_loop) → tie.After-field invariant_loop decreases_loop
+abbrev read : (c : tie.After-stands-at invariant_loop decreases_loop) → tie.After-field invariant_loop decreases_loop
 read c = c.before.before.before.before.before.before.before.before.before
 
-abbrev keyed : (c : tie.After-stands-at2 invariant_loop decreases_loop) → tie.After-key2 invariant_loop decreases_loop
+abbrev keyed : (c : tie.After-stands-at invariant_loop decreases_loop) → tie.After-key invariant_loop decreases_loop
 keyed c = c.before.before.before.before.before.before.before.before
 
-abbrev placed : (c : tie.After-stands-at2 invariant_loop decreases_loop) → tie.After-place-of2 invariant_loop decreases_loop
+abbrev placed : (c : tie.After-stands-at invariant_loop decreases_loop) → tie.After-place-of invariant_loop decreases_loop
 placed c = c.before.before.before.before
 
 -- at a held key: its place known; its set's row read, its open list's row read, both stepped
-abbrev held : (c : tie.After-row-at invariant_loop decreases_loop) → tie.Then5 invariant_loop decreases_loop
+abbrev held : (c : tie.After-row-at invariant_loop decreases_loop) → tie.Then2 invariant_loop decreases_loop
 held c = c.before.before.before.before.before.before.before.before
 
 abbrev set_row : (c : tie.After-row-at2 invariant_loop decreases_loop) → tie.After-row-at invariant_loop decreases_loop
@@ -92,11 +78,11 @@ set_row c = c.before.before.before.before.before.before.before.before
 abbrev both_rows : (c : tie.After-dk4 invariant_loop decreases_loop) → tie.After-row-at2 invariant_loop decreases_loop
 both_rows c = c.before.before.before.before.before.before
 
-abbrev stepped : (c : tie.After-dk4 invariant_loop decreases_loop) → tie.Then5 invariant_loop decreases_loop
+abbrev stepped : (c : tie.After-dk4 invariant_loop decreases_loop) → tie.Then2 invariant_loop decreases_loop
 stepped c = held (set_row (both_rows c))
 
 -- at a key that is opened: found to be new; the sets gathered, the key opened, the sets laid out again, then the open lists
-abbrev new_key : (c : tie.After-sets-of invariant_loop decreases_loop) → tie.Else5 invariant_loop decreases_loop
+abbrev new_key : (c : tie.After-sets-of invariant_loop decreases_loop) → tie.Else2 invariant_loop decreases_loop
 new_key c = c.before.before.before.before.before.before.before
 
 abbrev gathered_now : (c : tie.After-opened invariant_loop decreases_loop) → tie.After-sets-of invariant_loop decreases_loop
@@ -118,23 +104,23 @@ bytes_fit : (c : tie.Start invariant_loop decreases_loop) → length c.args.byte
 bytes_fit c = search rules
 
 bytes_of : (c : tie.At-loop invariant_loop decreases_loop) → (n : ℕ) → get_or (start c).args.bytes.now n 0 < 256
-bytes_of c n = (c.before.before.before.before.before.before.before.before.before.before.before.before.before.before.before.before.before.before.before.before.before.shared-slice-known.given n).fits
+bytes_of c n = (c.before.before.before.before.before.before.before.before.before.before.before.before.before.before.before.before.before.before.before.before.shared-slice-known.given n).fits
 
 next_fits : (i : ℕ) → i < 14 → i + 1 < 2 ^ 64
 next_fits i h = omega arith
 
 -- what is laid out at first: the given table
 abbrev laid_out : (c : tie.After-no-spots invariant_loop decreases_loop) → tie.Start invariant_loop decreases_loop
-laid_out c = c.before.before.before.before.before.before.before.before.before.before.before.before.before.before.before.before.before.before.before.before.before
+laid_out c = c.before.before.before.before.before.before.before.before.before.before.before.before.before.before.before.before.before.before.before.before
 
 abbrev sets_out : (c : tie.After-no-spots invariant_loop decreases_loop) → tie.After-scatter invariant_loop decreases_loop
-sets_out c = c.before.before.before.before.before.before.before.before.before.before.before.before.before.before
+sets_out c = c.before.before.before.before.before.before.before.before.before.before.before.before.before
 
 abbrev lists_out : (c : tie.After-no-spots invariant_loop decreases_loop) → tie.After-scatter2 invariant_loop decreases_loop
-lists_out c = c.before.before.before.before.before.before.before.before
+lists_out c = c.before.before.before.before.before.before.before
 
 laid_first : (c : tie.After-no-spots invariant_loop decreases_loop)
-    → table_of (sets_of (laid_out c).args.table.sets (laid_out c).args.table.sets.on (laid_out c).args.table.sets.confirmed (sets_out c).scatter.new.1.0 (sets_out c).scatter.new.1.1.0 (sets_out c).scatter.result (lists_out c).scatter2.new.1.0 (lists_out c).scatter2.new.1.1.0 (lists_out c).scatter2.result) (laid_out c).args.table.totals (laid_out c).args.table.blocks (laid_out c).args.table.services ≡ (laid_out c).args.table
+    → table_of (sets_of (laid_out c).args.table.sets (laid_out c).args.table.sets.on (laid_out c).args.table.sets.confirmed (sets_out c).scatter.new.1.0 (sets_out c).scatter.new.1.1.0 (sets_out c).scatter.result (lists_out c).scatter2.new.1.0 (lists_out c).scatter2.new.1.1.0 (lists_out c).scatter2.result) (laid_out c).args.table.totals (laid_out c).args.table.blocks ≡ (laid_out c).args.table
 laid_first c = first_table (laid_out c).args.bytes.now _ (laid_out c).requires _ _ _ _ _ _ (sets_out c).scatter.ensures (lists_out c).scatter2.ensures
 
 -- the present field stands within its block
@@ -156,37 +142,9 @@ body_is : (c : tie.Then1 invariant_loop decreases_loop)
 body_is c = body_of (start c.before).args.bytes.now c.before.loop.from (spot_of c) (fits c).ordered (fits c).inside
 
 -- a held key has one of 32 places
-held_place : (c : tie.Then5 invariant_loop decreases_loop) → (placed c.before).place-of2.result < most_keys
+held_place : (c : tie.Then2 invariant_loop decreases_loop) → (placed c.before).place_of.result < most_keys
 unfolding sets_of
-held_place c = place_short _ _ _ _ _ _ _ _ (turn c.before).before.loop.inv.going _ _ (sym c.before.stands-at2.ensures ∙ c.if5.true)
-
--- by its mark it is a linking field
-abbrev at_linking : (c : tie.After-stands-at2 invariant_loop decreases_loop) → tie.Else2 invariant_loop decreases_loop
-at_linking c = c.before.before.before.before.before.before.before.before.before.before.before
-
-unmarked : (c : tie.After-stands-at2 invariant_loop decreases_loop) → (spot_of (turn c)).service ≡ false
-unmarked c = (at_linking c).if2.false
-
--- ---- at a field of services: read, its key, its place; the place known
-
-abbrev service_turn : (c : tie.After-stands-at invariant_loop decreases_loop) → tie.Then1 invariant_loop decreases_loop
-service_turn c = c.before.before.before.before.before.before.before.before.before.before.before.before.before.before.before
-
-abbrev service_read : (c : tie.After-stands-at invariant_loop decreases_loop) → tie.After-service-field invariant_loop decreases_loop
-service_read c = c.before.before.before.before.before.before.before.before.before
-
-abbrev service_keyed : (c : tie.After-stands-at invariant_loop decreases_loop) → tie.After-key invariant_loop decreases_loop
-service_keyed c = c.before.before.before.before.before.before.before.before
-
-abbrev service_placed : (c : tie.After-stands-at invariant_loop decreases_loop) → tie.After-place-of invariant_loop decreases_loop
-service_placed c = c.before.before.before.before
-
-abbrev at_service : (c : tie.After-stands-at invariant_loop decreases_loop) → tie.Then2 invariant_loop decreases_loop
-at_service c = c.before.before.before.before.before.before.before.before.before.before.before
-
--- a held service has one of 64 places
-service_place : (c : tie.Then3 invariant_loop decreases_loop) → (service_placed c.before).place_of.result < most_services
-service_place c = service_short _ _ _ _ _ _ _ _ (service_turn c.before).before.loop.inv.going _ _ (sym c.before.stands_at.ensures ∙ c.if3.true)
+held_place c = place_short _ _ _ _ _ _ _ _ (turn c.before).before.loop.inv.going _ _ (sym c.before.stands_at.ensures ∙ c.if2.true)
 
 -- ---- the needs
 
@@ -238,17 +196,17 @@ cast_end c = search rules
 add_end : tie.Need-overflow-add-end invariant_loop decreases_loop
 add_end c = let w = fits c.before.before.before in omega (arith, bytes_fit (start c.before.before.before.before))
 
-sub_service_field : tie.Need-overflow-sub-service-field invariant_loop decreases_loop
-sub_service_field c = let w = fits c.before.before.before.before in omega arith
+sub_field : tie.Need-overflow-sub-field invariant_loop decreases_loop
+sub_field c = let w = fits c.before.before.before in omega arith
 
-part_service_field_start : tie.Need-slice-bounds-service-field-start invariant_loop decreases_loop
-part_service_field_start c = let w = fits c.before.before.before.before in omega arith
+part_field_start : tie.Need-slice-bounds-field-start invariant_loop decreases_loop
+part_field_start c = let w = fits c.before.before.before in omega arith
 
-part_service_field_end : tie.Need-slice-bounds-service-field-end invariant_loop decreases_loop
-part_service_field_end c = let w = fits c.before.before.before.before in omega arith
+part_field_end : tie.Need-slice-bounds-field-end invariant_loop decreases_loop
+part_field_end c = let w = fits c.before.before.before in omega arith
 
-service_field_requires : tie.Need-service-field-requires invariant_loop decreases_loop
-service_field_requires c κs = search rules
+field_requires : tie.Need-field-requires invariant_loop decreases_loop
+field_requires c κs = search rules
 
 key_requires : tie.Need-key-requires invariant_loop decreases_loop
 key_requires c κs = search rules
@@ -259,127 +217,6 @@ place_of_requires c κs = search rules
 stands_at_requires : tie.Need-stands-at-requires invariant_loop decreases_loop
 stands_at_requires c κs = search rules
 
-mul_found : tie.Need-overflow-mul-found invariant_loop decreases_loop
-mul_found c = let w = service_place (c) in omega arith
-
-element_copy_out_found : tie.Need-element-copy-out-found invariant_loop decreases_loop
-element_copy_out_found c = let w = service_place (c) in omega arith
-
-mul_heard : tie.Need-overflow-mul-heard invariant_loop decreases_loop
-mul_heard c = let w = service_place c.before in omega arith
-
-element_copy_out_heard : tie.Need-element-copy-out-heard invariant_loop decreases_loop
-element_copy_out_heard c = let w = service_place c.before in omega arith
-
-sub_on_held : tie.Need-overflow-sub-on-held invariant_loop decreases_loop
-sub_on_held c = let w = fits c.before.before.before.before.before.before.before.before.before.before.before.before.before.before.before.before.before.before in omega arith
-
-part_on_held_start : tie.Need-slice-bounds-on-held-start invariant_loop decreases_loop
-part_on_held_start c = let w = fits c.before.before.before.before.before.before.before.before.before.before.before.before.before.before.before.before.before.before in omega arith
-
-part_on_held_end : tie.Need-slice-bounds-on-held-end invariant_loop decreases_loop
-part_on_held_end c = let w = fits c.before.before.before.before.before.before.before.before.before.before.before.before.before.before.before.before.before.before in omega arith
-
-on_held_requires : tie.Need-on-held-requires invariant_loop decreases_loop
-on_held_requires c κs = search rules
-
-mul_list : tie.Need-overflow-mul-list invariant_loop decreases_loop
-mul_list c = let w = service_place c.before.before.before.before.before in omega arith
-
-element_set_from_list : tie.Need-element-set-from-list invariant_loop decreases_loop
-element_set_from_list c = let w = service_place c.before.before.before.before.before in omega arith
-
-mul_list_2 : tie.Need-overflow-mul-list-2 invariant_loop decreases_loop
-mul_list_2 c = let w = service_place c.before.before.before.before.before.before in omega arith
-
-element_set_from_list_2 : tie.Need-element-set-from-list-2 invariant_loop decreases_loop
-element_set_from_list_2 c = let w = service_place c.before.before.before.before.before.before in omega arith
-
-noted_requires : tie.Need-noted-requires invariant_loop decreases_loop
-noted_requires c κs = noted_fits c.before.before.before.before.before.before.before.before.before.before.before.before.before.before.before.before.before.before.before.before.before.before
-
-add_i : tie.Need-overflow-add-i invariant_loop decreases_loop
-add_i c = record { fits = next_fits _ (fits c.before.before.before.before.before.before.before.before.before.before.before.before.before.before.before.before.before.before.before.before.before.before.before).few }
-
-loop_less : tie.Need-loop-smaller invariant_loop decreases_loop
-loop_less c = let w = c.before.before.before.before.before.before.before.before.before.before.before.before.before.before.before.before.before.before.before.before.before.before.before.if1.true in omega arith
-
-loop_again : tie.Need-loop-preserved invariant_loop decreases_loop
-unfolding set_at
-loop_again c =
-    let s = c.before.before.before.before.before.before.before.before in
-    kept_service (service_turn s).before.loop.invariant (service_turn s).if1.true (at_service s).if2.true _ (body_is (service_turn s)) _ (service_read s).service-field.ensures _ (service_keyed s).key.ensures _ (service_placed s).place_of.ensures _
-    (sym c.before.before.before.before.before.before.before.before.stands_at.ensures ∙ c.before.before.before.before.before.before.before.if3.true) c.before.before.before.on-held.result c.before.before.before.on-held.ensures.1 c.noted.ensures
-
-opens_requires : tie.Need-opens-requires invariant_loop decreases_loop
-opens_requires c κs = search rules
-
-sub_opened_service : tie.Need-overflow-sub-opened-service invariant_loop decreases_loop
-sub_opened_service c = let w = fits c.before.before.before.before.before.before.before.before.before.before.before.before.before.before.before.before.before.before in omega arith
-
-part_opened_service_start : tie.Need-slice-bounds-opened-service-start invariant_loop decreases_loop
-part_opened_service_start c = let w = fits c.before.before.before.before.before.before.before.before.before.before.before.before.before.before.before.before.before.before in omega arith
-
-part_opened_service_end : tie.Need-slice-bounds-opened-service-end invariant_loop decreases_loop
-part_opened_service_end c = let w = fits c.before.before.before.before.before.before.before.before.before.before.before.before.before.before.before.before.before.before in omega arith
-
-opened_service_requires : tie.Need-opened-service-requires invariant_loop decreases_loop
-opened_service_requires c κs = search rules
-
-noted_requires_2 : tie.Need-noted-requires-2 invariant_loop decreases_loop
-noted_requires_2 c κs = noted_fits c.before.before.before.before.before.before.before.before.before.before.before.before.before.before.before.before.before.before.before.before
-
-add_i_2 : tie.Need-overflow-add-i-2 invariant_loop decreases_loop
-add_i_2 c = record { fits = next_fits _ (fits c.before.before.before.before.before.before.before.before.before.before.before.before.before.before.before.before.before.before.before.before.before).few }
-
-loop_less_2 : tie.Need-loop-smaller-2 invariant_loop decreases_loop
-loop_less_2 c = let w = c.before.before.before.before.before.before.before.before.before.before.before.before.before.before.before.before.before.before.before.before.before.if1.true in omega arith
-
-loop_again_2 : tie.Need-loop-preserved-2 invariant_loop decreases_loop
-loop_again_2 c =
-    let s = c.before.before.before.before.before.before in
-    kept_service_new (service_turn s).before.loop.invariant (service_turn s).if1.true (at_service s).if2.true _ (body_is (service_turn s)) _ (service_read s).service-field.ensures _ (service_keyed s).key.ensures _ (service_placed s).place_of.ensures _
-    (sym c.before.before.before.before.before.before.stands_at.ensures ∙ c.before.before.before.before.before.if3.false) (sym c.before.before.before.before.opens.ensures ∙ c.before.before.before.if4.true) _ c.before.opened-service.ensures c.noted2.ensures
-
-unheld_note_requires : tie.Need-unheld-note-requires invariant_loop decreases_loop
-unheld_note_requires c κs = search rules
-
-noted_requires_3 : tie.Need-noted-requires-3 invariant_loop decreases_loop
-noted_requires_3 c κs = noted_fits c.before.before.before.before.before.before.before.before.before.before.before.before.before.before.before.before.before.before.before
-
-add_i_3 : tie.Need-overflow-add-i-3 invariant_loop decreases_loop
-add_i_3 c = record { fits = next_fits _ (fits c.before.before.before.before.before.before.before.before.before.before.before.before.before.before.before.before.before.before.before.before).few }
-
-loop_less_3 : tie.Need-loop-smaller-3 invariant_loop decreases_loop
-loop_less_3 c = let w = c.before.before.before.before.before.before.before.before.before.before.before.before.before.before.before.before.before.before.before.before.if1.true in omega arith
-
-loop_again_3 : tie.Need-loop-preserved-3 invariant_loop decreases_loop
-loop_again_3 c =
-    let s = c.before.before.before.before.before in
-    kept_service_same (service_turn s).before.loop.invariant (service_turn s).if1.true (at_service s).if2.true _ (body_is (service_turn s)) _ (service_read s).service-field.ensures _ (service_keyed s).key.ensures _ (service_placed s).place_of.ensures _
-    (sym c.before.before.before.before.before.stands_at.ensures ∙ c.before.before.before.before.if3.false) (sym c.before.before.before.opens.ensures ∙ c.before.before.if4.false) c.before.unheld-note.result c.before.unheld-note.ensures c.noted3.ensures
-
-sub_field : tie.Need-overflow-sub-field invariant_loop decreases_loop
-sub_field c = let w = fits c.before.before.before.before in omega arith
-
-part_field_start : tie.Need-slice-bounds-field-start invariant_loop decreases_loop
-part_field_start c = let w = fits c.before.before.before.before in omega arith
-
-part_field_end : tie.Need-slice-bounds-field-end invariant_loop decreases_loop
-part_field_end c = let w = fits c.before.before.before.before in omega arith
-
-field_requires : tie.Need-field-requires invariant_loop decreases_loop
-field_requires c κs = search rules
-
-key_requires_2 : tie.Need-key-requires-2 invariant_loop decreases_loop
-key_requires_2 c κs = search rules
-
-place_of_requires_2 : tie.Need-place-of-requires-2 invariant_loop decreases_loop
-place_of_requires_2 c κs = search rules
-
-stands_at_requires_2 : tie.Need-stands-at-requires-2 invariant_loop decreases_loop
-stands_at_requires_2 c κs = search rules
-
 mul_a : tie.Need-overflow-mul-a invariant_loop decreases_loop
 mul_a c = let w = held_place (c) in omega arith
 
@@ -389,8 +226,8 @@ add_e c = let w = held_place (c) in omega arith
 mul_sn : tie.Need-overflow-mul-sn invariant_loop decreases_loop
 mul_sn c = let w = held_place (c) in omega arith
 
-sub_on_held_2 : tie.Need-overflow-sub-on-held-2 invariant_loop decreases_loop
-sub_on_held_2 c = let w = held_place (c) in omega arith
+sub_on_held : tie.Need-overflow-sub-on-held invariant_loop decreases_loop
+sub_on_held c = let w = held_place (c) in omega arith
 
 part_sn_start : tie.Need-slice-bounds-sn-start invariant_loop decreases_loop
 part_sn_start c = let w = held_place (c) in omega arith
@@ -398,8 +235,8 @@ part_sn_start c = let w = held_place (c) in omega arith
 part_sn_end : tie.Need-slice-bounds-sn-end invariant_loop decreases_loop
 part_sn_end c = let w = held_place c in omega (arith, (turn c.before).before.loop.inv.shown.numbers)
 
-sub_on_held_3 : tie.Need-overflow-sub-on-held-3 invariant_loop decreases_loop
-sub_on_held_3 c = let w = held_place c.before in omega arith
+sub_on_held_2 : tie.Need-overflow-sub-on-held-2 invariant_loop decreases_loop
+sub_on_held_2 c = let w = held_place c.before in omega arith
 
 part_sk_start : tie.Need-slice-bounds-sk-start invariant_loop decreases_loop
 part_sk_start c = let w = held_place c.before in omega arith
@@ -417,8 +254,8 @@ row_at_requires c κs =
 mul_dn : tie.Need-overflow-mul-dn invariant_loop decreases_loop
 mul_dn c = let w = held_place (held c) in omega arith
 
-sub_on_held_4 : tie.Need-overflow-sub-on-held-4 invariant_loop decreases_loop
-sub_on_held_4 c = let w = held_place (held c) in omega arith
+sub_on_held_3 : tie.Need-overflow-sub-on-held-3 invariant_loop decreases_loop
+sub_on_held_3 c = let w = held_place (held c) in omega arith
 
 part_dn_start : tie.Need-slice-bounds-dn-start invariant_loop decreases_loop
 part_dn_start c = let w = held_place (held c) in omega arith
@@ -426,8 +263,8 @@ part_dn_start c = let w = held_place (held c) in omega arith
 part_dn_end : tie.Need-slice-bounds-dn-end invariant_loop decreases_loop
 part_dn_end c = let w = held_place (held c) in omega (arith, (turn (held c).before).before.loop.inv.draft.numbers)
 
-sub_on_held_5 : tie.Need-overflow-sub-on-held-5 invariant_loop decreases_loop
-sub_on_held_5 c = let w = held_place (held c.before) in omega arith
+sub_on_held_4 : tie.Need-overflow-sub-on-held-4 invariant_loop decreases_loop
+sub_on_held_4 c = let w = held_place (held c.before) in omega arith
 
 part_dk_start : tie.Need-slice-bounds-dk-start invariant_loop decreases_loop
 part_dk_start c = let w = held_place (held c.before) in omega arith
@@ -442,26 +279,26 @@ row_at_requires_2 c κs =
     let w = held_place h in
     (omega (arith, K.draft.lens), omega (arith, K.draft.names))
 
-sub_on_held_6 : tie.Need-overflow-sub-on-held-6 invariant_loop decreases_loop
-sub_on_held_6 c = let w = fits (turn (held (set_row c)).before) in omega arith
+sub_on_held_5 : tie.Need-overflow-sub-on-held-5 invariant_loop decreases_loop
+sub_on_held_5 c = let w = fits (turn (held (set_row c)).before) in omega arith
 
-part_on_held_start_2 : tie.Need-slice-bounds-on-held-start-2 invariant_loop decreases_loop
-part_on_held_start_2 c = let w = fits (turn (held (set_row c)).before) in omega arith
+part_on_held_start : tie.Need-slice-bounds-on-held-start invariant_loop decreases_loop
+part_on_held_start c = let w = fits (turn (held (set_row c)).before) in omega arith
 
-part_on_held_end_2 : tie.Need-slice-bounds-on-held-end-2 invariant_loop decreases_loop
-part_on_held_end_2 c = let w = fits (turn (held (set_row c)).before) in omega arith
+part_on_held_end : tie.Need-slice-bounds-on-held-end invariant_loop decreases_loop
+part_on_held_end c = let w = fits (turn (held (set_row c)).before) in omega arith
 
-on_held_requires_2 : tie.Need-on-held-requires-2 invariant_loop decreases_loop
-on_held_requires_2 c κs =
+on_held_requires : tie.Need-on-held-requires invariant_loop decreases_loop
+on_held_requires c κs =
     let h = held (set_row c.before) in
     let s = h.before in
     let K = (turn s).before.loop.inv in
     let w = held_place h in (
-      part_long _ _ (row_size_law (placed s).place-of2.result) w _ K.shown.numbers,
-      part_long _ _ (row_size_law (placed s).place-of2.result) w _ K.shown.kinds,
-      part_long _ _ (row_size_law (placed s).place-of2.result) w _ K.draft.numbers,
-      part_long _ _ (row_size_law (placed s).place-of2.result) w _ K.draft.kinds,
-      draft_short K (placed s).place-of2.result w _ c.before.row-at2.ensures,
+      part_long _ _ (row_size_law (placed s).place_of.result) w _ K.shown.numbers,
+      part_long _ _ (row_size_law (placed s).place_of.result) w _ K.shown.kinds,
+      part_long _ _ (row_size_law (placed s).place_of.result) w _ K.draft.numbers,
+      part_long _ _ (row_size_law (placed s).place_of.result) w _ K.draft.kinds,
+      draft_short K (placed s).place_of.result w _ c.before.row-at2.ensures,
     )
 
 mul_exchanged : tie.Need-overflow-mul-exchanged invariant_loop decreases_loop
@@ -518,42 +355,42 @@ element_write_draft_3 c = let w = held_place (stepped c.before.before.before.bef
 array_write_on : tie.Need-array-write-on invariant_loop decreases_loop
 array_write_on c = let w = held_place (stepped c.before.before.before.before.before) in omega arith
 
-noted_requires_4 : tie.Need-noted-requires-4 invariant_loop decreases_loop
-noted_requires_4 c κs = noted_fits (turn (stepped c.before.before.before.before.before).before)
+noted_requires : tie.Need-noted-requires invariant_loop decreases_loop
+noted_requires c κs = noted_fits (turn (stepped c.before.before.before.before.before).before)
 
-add_i_4 : tie.Need-overflow-add-i-4 invariant_loop decreases_loop
-add_i_4 c = record { fits = next_fits _ (fits (turn (stepped c.before.before.before.before.before.before).before)).few }
+add_i : tie.Need-overflow-add-i invariant_loop decreases_loop
+add_i c = record { fits = next_fits _ (fits (turn (stepped c.before.before.before.before.before.before).before)).few }
 
-loop_less_4 : tie.Need-loop-smaller-4 invariant_loop decreases_loop
-loop_less_4 c = let w = (turn (stepped c.before.before.before.before.before.before).before).if1.taken in omega arith
+loop_less : tie.Need-loop-smaller invariant_loop decreases_loop
+loop_less c = let w = (turn (stepped c.before.before.before.before.before.before).before).if1.taken in omega arith
 
-loop_again_4 : tie.Need-loop-preserved-4 invariant_loop decreases_loop
-loop_again_4 c =
+loop_again : tie.Need-loop-preserved invariant_loop decreases_loop
+loop_again c =
     let rows = c.before.before.before.before.before.before in
     let after = rows.before.before.before.before in
-    let y = after.on-held2.new in
+    let y = after.on-held.new in
     let h = stepped rows in
     let s = h.before in
     let K = (turn s).before.loop.inv in
-    let p = (placed s).place-of2.result in
+    let p = (placed s).place_of.result in
     let w = held_place h in
-    kept_held K (turn s).if1.taken (unmarked s) _ (body_is (turn s)) _ (read s).field.ensures _ (keyed s).key2.ensures _ (placed s).place-of2.ensures _ (sym s.stands-at2.ensures ∙ h.if5.taken) w _ (row_size_law p) _ _
-    (set_row (both_rows rows)).row_at.ensures (both_rows rows).row-at2.ensures after.on-held2.result y.0 y.1.0 y.1.1.1.0 y.1.1.1.1.0 after.on-held2.ensures
+    kept_held K (turn s).if1.taken _ (body_is (turn s)) _ (read s).field.ensures _ (keyed s).key.ensures _ (placed s).place_of.ensures _ (sym s.stands_at.ensures ∙ h.if2.taken) w _ (row_size_law p) _ _
+    (set_row (both_rows rows)).row_at.ensures (both_rows rows).row-at2.ensures after.on-held.result y.0 y.1.0 y.1.1.1.0 y.1.1.1.1.0 after.on-held.ensures
     (rows.before.before.before.sn4.given ∙ part_long _ _ (row_size_law p) w _ K.shown.numbers) (rows.before.before.sk4.given ∙ part_long _ _ (row_size_law p) w _ K.shown.kinds)
     (rows.before.dn4.given ∙ part_long _ _ (row_size_law p) w _ K.draft.numbers) (rows.dk4.given ∙ part_long _ _ (row_size_law p) w _ K.draft.kinds)
-    _ c.before.before.confirmed-by.ensures _ c.before.before.before.exchanged.ensures c.noted4.ensures
+    _ c.before.before.confirmed-by.ensures _ c.before.before.before.exchanged.ensures c.noted.ensures
 
-opens_requires_2 : tie.Need-opens-requires-2 invariant_loop decreases_loop
-opens_requires_2 c κs = search rules
+opens_requires : tie.Need-opens-requires invariant_loop decreases_loop
+opens_requires c κs = search rules
 
 slice_aggregate_sets_of : tie.Need-slice-aggregate-sets-of invariant_loop decreases_loop
 slice_aggregate_sets_of c = search rules
 
 slice_aggregate_sets_of_2 : tie.Need-slice-aggregate-sets-of-2 invariant_loop decreases_loop
-slice_aggregate_sets_of_2 c = sym (turn c.before.before.before.before.before).before.loop.inv.shown.kinds
+slice_aggregate_sets_of_2 c = search rules
 
 slice_aggregate_sets_of_3 : tie.Need-slice-aggregate-sets-of-3 invariant_loop decreases_loop
-slice_aggregate_sets_of_3 c = sym (turn c.before.before.before.before.before.before).before.loop.inv.draft.numbers
+slice_aggregate_sets_of_3 c = search rules
 
 slice_aggregate_sets_of_4 : tie.Need-slice-aggregate-sets-of-4 invariant_loop decreases_loop
 slice_aggregate_sets_of_4 c = sym (turn c.before.before.before.before.before.before.before).before.loop.inv.draft.kinds
@@ -593,47 +430,47 @@ slice_aggregate_scatter_8 c = sym (opening (sets_laid c)).before.loop.inv.draft.
 scatter_requires_4 : tie.Need-scatter-requires-4 invariant_loop decreases_loop
 scatter_requires_4 c κs = let K = (opening (sets_laid c)).before.loop.inv in (K.draft.numbers, K.draft.kinds)
 
-noted_requires_5 : tie.Need-noted-requires-5 invariant_loop decreases_loop
-noted_requires_5 c κs = noted_fits (opening (sets_laid c.before.before.before))
+noted_requires_2 : tie.Need-noted-requires-2 invariant_loop decreases_loop
+noted_requires_2 c κs = noted_fits (opening (sets_laid c.before.before.before))
 
-add_i_5 : tie.Need-overflow-add-i-5 invariant_loop decreases_loop
-add_i_5 c = record { fits = next_fits _ (fits (opening (sets_laid c.before.before.before.before))).few }
+add_i_2 : tie.Need-overflow-add-i-2 invariant_loop decreases_loop
+add_i_2 c = record { fits = next_fits _ (fits (opening (sets_laid c.before.before.before.before))).few }
 
-loop_less_5 : tie.Need-loop-smaller-5 invariant_loop decreases_loop
-loop_less_5 c = let w = (opening (sets_laid c.before.before.before.before)).if1.taken in omega arith
+loop_less_2 : tie.Need-loop-smaller-2 invariant_loop decreases_loop
+loop_less_2 c = let w = (opening (sets_laid c.before.before.before.before)).if1.taken in omega arith
 
-loop_again_5 : tie.Need-loop-preserved-5 invariant_loop decreases_loop
-loop_again_5 c =
+loop_again_2 : tie.Need-loop-preserved-2 invariant_loop decreases_loop
+loop_again_2 c =
     let again = sets_laid c.before.before.before.before in
     let open' = opened_now again in
     let g = gathered_now open' in
     let h = new_key g in
     let s = h.before in
     let asked = g.before.before.before.before.before.before in
-    kept_new (turn s).before.loop.inv (turn s).if1.taken (unmarked s) _ (body_is (turn s)) _ (read s).field.ensures _ (keyed s).key2.ensures _ (placed s).place-of2.ensures _ (sym s.stands-at2.ensures ∙ h.if5.left)
-    (sym asked.opens2.ensures ∙ g.before.before.before.before.before.if6.taken) (bytes_of (turn s).before) open'.opened.result g.sets_of.result g.sets_of.ensures open'.opened.ensures _ _ _ _ _ _
-    c.before.before.before.before.before.before.before.before.before.scatter3.ensures c.before.before.before.scatter4.ensures c.noted5.ensures
+    kept_new (turn s).before.loop.inv (turn s).if1.taken _ (body_is (turn s)) _ (read s).field.ensures _ (keyed s).key.ensures _ (placed s).place_of.ensures _ (sym s.stands_at.ensures ∙ h.if2.left)
+    (sym asked.opens.ensures ∙ g.before.before.before.before.before.if3.taken) (bytes_of (turn s).before) open'.opened.result g.sets_of.result g.sets_of.ensures open'.opened.ensures _ _ _ _ _ _
+    c.before.before.before.before.before.before.before.before.before.scatter3.ensures c.before.before.before.scatter4.ensures c.noted2.ensures
 
-unheld_note_requires_2 : tie.Need-unheld-note-requires-2 invariant_loop decreases_loop
-unheld_note_requires_2 c κs = search rules
+unheld_note_requires : tie.Need-unheld-note-requires invariant_loop decreases_loop
+unheld_note_requires c κs = search rules
 
-noted_requires_6 : tie.Need-noted-requires-6 invariant_loop decreases_loop
-noted_requires_6 c κs = noted_fits (turn c.before.before.before.before)
+noted_requires_3 : tie.Need-noted-requires-3 invariant_loop decreases_loop
+noted_requires_3 c κs = noted_fits (turn c.before.before.before.before)
 
-add_i_6 : tie.Need-overflow-add-i-6 invariant_loop decreases_loop
-add_i_6 c = record { fits = next_fits _ (fits (turn c.before.before.before.before.before)).few }
+add_i_3 : tie.Need-overflow-add-i-3 invariant_loop decreases_loop
+add_i_3 c = record { fits = next_fits _ (fits (turn c.before.before.before.before.before)).few }
 
-loop_less_6 : tie.Need-loop-smaller-6 invariant_loop decreases_loop
-loop_less_6 c = let w = (turn c.before.before.before.before.before).if1.taken in omega arith
+loop_less_3 : tie.Need-loop-smaller-3 invariant_loop decreases_loop
+loop_less_3 c = let w = (turn c.before.before.before.before.before).if1.taken in omega arith
 
-loop_again_6 : tie.Need-loop-preserved-6 invariant_loop decreases_loop
-loop_again_6 c =
+loop_again_3 : tie.Need-loop-preserved-3 invariant_loop decreases_loop
+loop_again_3 c =
     let h = c.before.before.before.before in
     let s = h.before in
-    kept_same (turn s).before.loop.invariant (turn s).if1.true (unmarked s) _ (body_is (turn s)) _ (read s).field.ensures _ (keyed s).key2.ensures _ (placed s).place-of2.ensures _ (sym s.stands-at2.ensures ∙ h.if5.false) (sym c.before.before.before.opens2.ensures ∙ c.before.before.if6.false) c.before.unheld-note2.result c.before.unheld-note2.ensures c.noted6.ensures
+    kept_same (turn s).before.loop.invariant (turn s).if1.true _ (body_is (turn s)) _ (read s).field.ensures _ (keyed s).key.ensures _ (placed s).place_of.ensures _ (sym s.stands_at.ensures ∙ h.if2.false) (sym c.before.before.before.opens.ensures ∙ c.before.before.if3.false) c.before.unheld-note.result c.before.unheld-note.ensures c.noted3.ensures
 
-sub_if7 : tie.Need-overflow-sub-if7 invariant_loop decreases_loop
-sub_if7 c = search rules
+sub_if4 : tie.Need-overflow-sub-if4 invariant_loop decreases_loop
+sub_if4 c = search rules
 
 slice_aggregate_sets_of_5 : tie.Need-slice-aggregate-sets-of-5 invariant_loop decreases_loop
 slice_aggregate_sets_of_5 c = search rules
@@ -657,10 +494,10 @@ returns : tie.Need-returns invariant_loop decreases_loop
 returns c =
     let b = c.before.before.before.before.before.before in
     let l = b.before.before in
-    kept_end l.loop.invariant b.before.if1.false b.if7.true (start l).args.table (laid_first l.before) c.of.result (c.of.ensures ∙ ap (λ (x : Sets). table_of x l.loop.totals l.loop.blocks l.loop.services) c.before.sets-of2.ensures)
+    kept_end l.loop.invariant b.before.if1.false b.if4.true (start l).args.table (laid_first l.before) c.of.result (c.of.ensures ∙ ap (λ (x : Sets). table_of x l.loop.totals l.loop.blocks) c.before.sets-of2.ensures)
 
 add_at : tie.Need-overflow-add-at invariant_loop decreases_loop
-add_at c = let y = c.if7.false in omega (arith, bytes_fit (start c.before.before))
+add_at c = let y = c.if4.false in omega (arith, bytes_fit (start c.before.before))
 
 next_block_requires : tie.Need-next-block-requires invariant_loop decreases_loop
 next_block_requires c κs = search rules
@@ -678,44 +515,30 @@ judge_requires : tie.Need-judge-requires invariant_loop decreases_loop
 judge_requires c κs = search rules
 
 to_requires : tie.Need-to-requires invariant_loop decreases_loop
-to_requires c κs = let b = c.before.before.before in let l = b.before.before in let y = b.if7.false in omega (arith, l.loop.invariant.going.fewer, bytes_fit (start l))
+to_requires c κs = let b = c.before.before.before in let l = b.before.before in let y = b.if4.false in omega (arith, l.loop.invariant.going.fewer, bytes_fit (start l))
 
 is_done_requires : tie.Need-is-done-requires invariant_loop decreases_loop
 is_done_requires c κs = search rules
 
-closed_requires : tie.Need-closed-requires invariant_loop decreases_loop
-closed_requires c κs = search rules
+loop_less_4 : tie.Need-loop-smaller-4 invariant_loop decreases_loop
+loop_less_4 c = let w = judged_few _ _ (says _ c.before.before.before.before.judge.ensures) in let b = c.before.before.before.before.before.before.before in let z = b.before.if1.false in let y = b.if4.false in omega arith
 
-loop_less_7 : tie.Need-loop-smaller-7 invariant_loop decreases_loop
-loop_less_7 c = let w = judged_few _ _ (says _ c.before.before.before.before.before.before.judge.ensures) in let b = c.before.before.before.before.before.before.before.before.before in let z = b.before.if1.false in let y = b.if7.false in omega arith
-
-loop_again_7 : tie.Need-loop-preserved-7 invariant_loop decreases_loop
-loop_again_7 c =
-    let b = c.before.before.before.before.before.before.before.before.before in
-    let l = b.before.before in
-    kept_refused l.loop.invariant b.before.if1.false b.if7.false (bytes_of l) _ (block_part (start l).args.bytes.now l.loop.at) c.before.before.before.before.before.before.judge.result (says _ c.before.before.before.before.before.before.judge.ensures) _ c.before.before.before.before.before.to.ensures _ c.before.before.before.before.before.before.before.before.next-block.ensures
-    (sym c.before.before.before.is-done.ensures ∙ not-true _ c.before.before.if8.true) _ c.before.before.before.before.before.before.before.before.before.before.before.before.before.before.none.ensures _ c.closed.ensures
-
-loop_less_8 : tie.Need-loop-smaller-8 invariant_loop decreases_loop
-loop_less_8 c = let w = judged_few _ _ (says _ c.before.before.before.before.before.judge.ensures) in let b = c.before.before.before.before.before.before.before.before in let z = b.before.if1.false in let y = b.if7.false in omega arith
-
-loop_again_8 : tie.Need-loop-preserved-8 invariant_loop decreases_loop
-loop_again_8 c =
-    let b = c.before.before.before.before.before.before.before.before in
-    let l = b.before.before in
-    still_quiet l.loop.invariant c.if9.false
-    (kept_refused_quiet l.loop.invariant b.before.if1.false b.if7.false (bytes_of l) _ (block_part (start l).args.bytes.now l.loop.at) c.before.before.before.before.before.judge.result (says _ c.before.before.before.before.before.judge.ensures) _ c.before.before.before.before.to.ensures _ c.before.before.before.before.before.before.before.next-block.ensures
-    c.if9.false (sym c.before.before.is-done.ensures ∙ not-true _ c.before.if8.true) _ c.before.before.before.before.before.before.before.before.before.before.before.before.before.none.ensures)
-
-loop_less_9 : tie.Need-loop-smaller-9 invariant_loop decreases_loop
-loop_less_9 c = let w = judged_few _ _ (says _ c.before.before.before.before.judge.ensures) in let b = c.before.before.before.before.before.before.before in let z = b.before.if1.false in let y = b.if7.false in omega arith
-
-loop_again_9 : tie.Need-loop-preserved-9 invariant_loop decreases_loop
-loop_again_9 c =
+loop_again_4 : tie.Need-loop-preserved-4 invariant_loop decreases_loop
+loop_again_4 c =
     let b = c.before.before.before.before.before.before.before in
     let l = b.before.before in
-    kept_taken l.loop.invariant b.before.if1.false b.if7.false (bytes_of l) _ (block_part (start l).args.bytes.now l.loop.at) c.before.before.before.before.judge.result (says _ c.before.before.before.before.judge.ensures) _ c.before.before.before.to.ensures _ c.before.before.before.before.before.before.next-block.ensures
-    (sym c.before.is-done.ensures ∙ not-false _ c.if8.false)
+    kept_refused l.loop.invariant b.before.if1.false b.if4.false (bytes_of l) _ (block_part (start l).args.bytes.now l.loop.at) c.before.before.before.before.judge.result (says _ c.before.before.before.before.judge.ensures) _ c.before.before.before.to.ensures _ c.before.before.before.before.before.before.next-block.ensures
+    (sym c.before.is-done.ensures ∙ not-true _ c.if5.true) _ c.before.before.before.before.before.before.before.before.before.before.before.before.none.ensures
+
+loop_less_5 : tie.Need-loop-smaller-5 invariant_loop decreases_loop
+loop_less_5 c = let w = judged_few _ _ (says _ c.before.before.before.before.judge.ensures) in let b = c.before.before.before.before.before.before.before in let z = b.before.if1.false in let y = b.if4.false in omega arith
+
+loop_again_5 : tie.Need-loop-preserved-5 invariant_loop decreases_loop
+loop_again_5 c =
+    let b = c.before.before.before.before.before.before.before in
+    let l = b.before.before in
+    kept_taken l.loop.invariant b.before.if1.false b.if4.false (bytes_of l) _ (block_part (start l).args.bytes.now l.loop.at) c.before.before.before.before.judge.result (says _ c.before.before.before.before.judge.ensures) _ c.before.before.before.to.ensures _ c.before.before.before.before.before.before.next-block.ensures
+    (sym c.before.is-done.ensures ∙ not-false _ c.if5.false)
 
 pub run_blocks_spec : {M : Type 1} → statement M
 run_blocks_spec =
@@ -739,72 +562,35 @@ run_blocks_spec =
     add_start
     cast_end
     add_end
-    sub_service_field
-    part_service_field_start
-    part_service_field_end
-    service_field_requires
-    key_requires
-    place_of_requires
-    stands_at_requires
-    mul_found
-    element_copy_out_found
-    mul_heard
-    element_copy_out_heard
-    sub_on_held
-    part_on_held_start
-    part_on_held_end
-    on_held_requires
-    mul_list
-    element_set_from_list
-    mul_list_2
-    element_set_from_list_2
-    noted_requires
-    add_i
-    loop_less
-    loop_again
-    opens_requires
-    sub_opened_service
-    part_opened_service_start
-    part_opened_service_end
-    opened_service_requires
-    noted_requires_2
-    add_i_2
-    loop_less_2
-    loop_again_2
-    unheld_note_requires
-    noted_requires_3
-    add_i_3
-    loop_less_3
-    loop_again_3
     sub_field
     part_field_start
     part_field_end
     field_requires
-    key_requires_2
-    place_of_requires_2
-    stands_at_requires_2
+    key_requires
+    place_of_requires
+    stands_at_requires
     mul_a
     add_e
     mul_sn
-    sub_on_held_2
+    sub_on_held
     part_sn_start
     part_sn_end
-    sub_on_held_3
+    sub_on_held_2
     part_sk_start
     part_sk_end
     row_at_requires
     mul_dn
-    sub_on_held_4
+    sub_on_held_3
     part_dn_start
     part_dn_end
-    sub_on_held_5
+    sub_on_held_4
     part_dk_start
     part_dk_end
     row_at_requires_2
-    sub_on_held_6
-    part_on_held_start_2
-    part_on_held_end_2
-    on_held_requires_2
+    sub_on_held_5
+    part_on_held_start
+    part_on_held_end
+    on_held_requires
     mul_exchanged
     element_copy_out_exchanged
     array_read_exchanged
@@ -823,11 +609,11 @@ run_blocks_spec =
     element_write_draft_2
     element_write_draft_3
     array_write_on
-    noted_requires_4
-    add_i_4
-    loop_less_4
-    loop_again_4
-    opens_requires_2
+    noted_requires
+    add_i
+    loop_less
+    loop_again
+    opens_requires
     slice_aggregate_sets_of
     slice_aggregate_sets_of_2
     slice_aggregate_sets_of_3
@@ -843,16 +629,16 @@ run_blocks_spec =
     slice_aggregate_scatter_7
     slice_aggregate_scatter_8
     scatter_requires_4
-    noted_requires_5
-    add_i_5
-    loop_less_5
-    loop_again_5
-    unheld_note_requires_2
-    noted_requires_6
-    add_i_6
-    loop_less_6
-    loop_again_6
-    sub_if7
+    noted_requires_2
+    add_i_2
+    loop_less_2
+    loop_again_2
+    unheld_note_requires
+    noted_requires_3
+    add_i_3
+    loop_less_3
+    loop_again_3
+    sub_if4
     slice_aggregate_sets_of_5
     slice_aggregate_sets_of_6
     slice_aggregate_sets_of_7
@@ -868,10 +654,7 @@ run_blocks_spec =
     judge_requires
     to_requires
     is_done_requires
-    closed_requires
-    loop_less_7
-    loop_again_7
-    loop_less_8
-    loop_again_8
-    loop_less_9
-    loop_again_9)
+    loop_less_4
+    loop_again_4
+    loop_less_5
+    loop_again_5)

@@ -47,16 +47,13 @@ returns_3 c =
     load_left_over _ (λ i. (c.before.before.before.before.before.before.before.before.before.before.shared-slice-known.given i).fits) _ _ (sym c.before.before.before.before.before.before.before.count.given.1 ∙ c.before.before.before.before.before.before.before.before.before.read-at-most.ensures)
     _ c.before.before.before.before.before.read-sets.ensures _ c.not-a-sheet3.ensures (not-false _ c.before.before.before.if1.false) c.before.if2.true
 
-empty_requires : tie.Need-empty-requires
-empty_requires c κs = search rules
-
 of_requires : tie.Need-of-requires
 of_requires c κs = search rules
 
 returns_4 : tie.Need-returns-4
 returns_4 c =
-    load_made _ (λ i. (c.before.before.before.before.before.before.before.before.before.before.before.before.before.shared-slice-known.given i).fits) _ _ (sym c.before.before.before.before.before.before.before.before.before.before.count.given.1 ∙ c.before.before.before.before.before.before.before.before.before.before.before.before.read-at-most.ensures)
-    _ c.before.before.before.before.before.before.before.before.read-sets.ensures (not-false _ c.before.before.before.before.before.before.if1.false) c.before.before.before.before.if2.false _ c.before.empty.ensures _ c.of.ensures
+    load_made _ (λ i. (c.before.before.before.before.before.before.before.before.before.before.before.before.shared-slice-known.given i).fits) _ _ (sym c.before.before.before.before.before.before.before.before.before.count.given.1 ∙ c.before.before.before.before.before.before.before.before.before.before.before.read-at-most.ensures)
+    _ c.before.before.before.before.before.before.before.read-sets.ensures (not-false _ c.before.before.before.before.before.if1.false) c.before.before.before.if2.false _ c.of.ensures
 
 pub load_sheet_spec : {M : Type 1} → statement M
 load_sheet_spec =
@@ -74,6 +71,5 @@ load_sheet_spec =
     returns_2
     not_a_sheet_requires_3
     returns_3
-    empty_requires
     of_requires
     returns_4)

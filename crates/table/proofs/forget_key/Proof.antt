@@ -49,9 +49,9 @@ of_requires : tie.Need-of-requires
 of_requires c κs = search rules
 
 returns_3 : tie.Need-returns-3
-returns_3 c = given_right c.before.before.before.before.before.before.before.before.before.before.before.before.before.before.before.before.before.before.meets.ensures (not-false _ c.before.before.before.before.before.before.before.before.before.before.before.before.before.before.before.before.before.if1.false) (λ d m e.
-    forgets_held _ d m e _ _ c.before.before.before.before.before.before.before.before.before.before.before.before.place_of.ensures (stands _ d.sets (sets_are _ d m e) _ _ c.before.before.before.before.before.before.before.before.before.before.before.before.place_of.ensures (sym c.before.before.before.before.before.before.before.before.stands_at.ensures ∙ not-false _ c.before.before.before.before.before.before.before.if2.false))
-    _ c.before.before.before.before.before.before.shut_at.ensures _ c.before.before.without.ensures _ c.of.ensures)
+returns_3 c = given_right c.before.before.before.before.before.before.before.before.before.before.before.before.before.before.before.before.before.meets.ensures (not-false _ c.before.before.before.before.before.before.before.before.before.before.before.before.before.before.before.before.if1.false) (λ d m e.
+    forgets_held _ d m e _ _ c.before.before.before.before.before.before.before.before.before.before.before.place_of.ensures (stands _ d.sets (sets_are _ d m e) _ _ c.before.before.before.before.before.before.before.before.before.before.before.place_of.ensures (sym c.before.before.before.before.before.before.before.stands_at.ensures ∙ not-false _ c.before.before.before.before.before.before.if2.false))
+    _ c.before.before.before.before.before.shut_at.ensures _ c.before.without.ensures _ c.of.ensures)
 
 pub forget_key_spec : {M : Type 1} → statement M
 forget_key_spec =

@@ -102,13 +102,13 @@ module _ {M : Type 1} {𝓤 : Ura M} (𝓛 : Logic 𝓤) (at_mem : Memory → SP
       owned ! i32 (Is i32) (sint_Makes 𝓛 w32) z _ (refl, fits) $ nothing ! $ move ! (1 ∷ 0 ∷ []) $ fjoin ! $ join ! $ nothing ! $ join ! $ frame ! $ done !
 
   -- ---- the struct in its local, to be lent, and taken back
-  lies_in : (d : stat) (u : Val) (b : ℕ) → ent 𝓤 (⋆ 𝓛 (‵ (fat full_share T'.mir b 0 u) ∷ ‵ (R.own d (u ∷ [])) ∷ [])) (sem 𝓛 ((mem R).own_at d b 0))
+  lies_in : (d : stat) (u : Val) (b : ℕ) → ent 𝓤 (⋆ 𝓛 (‵ (fat full_share T'.mir b 0 u) ∷ ‵ (R.own_val d (u ∷ [])) ∷ [])) (sem 𝓛 ((mem R).own_at d b 0))
   unfolding part_of
   lies_in d u b =
-      qed 𝓛 (‵ (fat full_share T'.mir b 0 u) ∷ ‵ (R.own d (u ∷ [])) ∷ []) ∵ use1 𝓛 (‵ (cell_at full_share R.mir (u ∷ []) b 0)) (𝓛.laws.at_raw full_share T'.mir b 0 u) $
-      fjoin ! $ fpack ! (List Val) (λ us. fsep (cell_at full_share R.mir us b 0) (R.own d us)) (u ∷ []) $ done !
+      qed 𝓛 (‵ (fat full_share T'.mir b 0 u) ∷ ‵ (R.own_val d (u ∷ [])) ∷ []) ∵ use1 𝓛 (‵ (cell_at full_share R.mir (u ∷ []) b 0)) (𝓛.laws.at_raw full_share T'.mir b 0 u) $
+      fjoin ! $ fpack ! (List Val) (λ us. fsep (cell_at full_share R.mir us b 0) (R.own_val d us)) (u ∷ []) $ done !
 
-  lies_out : (d : stat) (b : ℕ) → ent 𝓤 (sem 𝓛 ((mem R).own_at d b 0)) (sep 𝓤 (sem 𝓛 (fat full_share T'.mir b 0 (val d))) (sem 𝓛 (R.own d (val d ∷ []))))
+  lies_out : (d : stat) (b : ℕ) → ent 𝓤 (sem 𝓛 ((mem R).own_at d b 0)) (sep 𝓤 (sem 𝓛 (fat full_share T'.mir b 0 (val d))) (sem 𝓛 (R.own_val d (val d ∷ []))))
   unfolding part_of
   lies_out d b =
       qed 𝓛 (‵ ((mem R).own_at d b 0) ∷ []) ∵ fpick ! (λ vs. fsplit ! $ spelt ! R (Is R) (shows 𝓛 R) (LL.vals T.the_type T'.the_laws) (LL.tells T.the_type T'.the_laws) full_share d vs b 0 $
@@ -140,9 +140,9 @@ module _ {M : Type 1} {𝓤 : Ura M} (𝓛 : Logic 𝓤) (at_mem : Memory → SP
   abbrev to_picked : ℤ → Val → stat → (Picked 𝓛 at_mem run).Ghost
   to_picked r w d = ((tt, tt, tt, (r, (d, tt)), (w ∷ [], (val d ∷ [], tt))), tt)
 
-  goes_picked : (r : ℤ) (w : Val) (d : stat) → ent 𝓤 (⋆ 𝓛 (‵ (R.own d (val d ∷ [])) ∷ ‵ (i32.own_val r (w ∷ [])) ∷ [])) ((Picked 𝓛 at_mem run).pre (to_picked r w d))
+  goes_picked : (r : ℤ) (w : Val) (d : stat) → ent 𝓤 (⋆ 𝓛 (‵ (R.own_val d (val d ∷ [])) ∷ ‵ (i32.own_val r (w ∷ [])) ∷ [])) ((Picked 𝓛 at_mem run).pre (to_picked r w d))
   goes_picked r w d =
-      qed 𝓛 (‵ (R.own d (val d ∷ [])) ∷ ‵ (i32.own_val r (w ∷ [])) ∷ []) ∵ nothing ! $ move ! (1 ∷ 0 ∷ []) $ fjoin ! $ move ! (1 ∷ 0 ∷ []) $ fjoin ! $ nothing ! $ join ! $ frame ! $ done !
+      qed 𝓛 (‵ (R.own_val d (val d ∷ [])) ∷ ‵ (i32.own_val r (w ∷ [])) ∷ []) ∵ nothing ! $ move ! (1 ∷ 0 ∷ []) $ fjoin ! $ move ! (1 ∷ 0 ∷ []) $ fjoin ! $ nothing ! $ join ! $ frame ! $ done !
 
   module _ (C : Calls 𝓤 H) (Λ : Loops 𝓤 H) (fm : FmC 𝓤 H 𝓛.laws C) (known-blank : Triple 𝓤 (C #blank) (Blank 𝓛 at_mem run)) (known-fstat : Triple 𝓤 (C #fstat) (Fstat 𝓛 at_mem run)) (known_picked : Triple 𝓤 (C #picked) (Picked 𝓛 at_mem run)) where
     walk : ent 𝓤 (on_entry 𝓛 facts-of.signature tt tt (z, tt) (v ∷ [], tt)) (WpFn 𝓤 H C Λ code.function (v ∷ []) Post)
@@ -152,7 +152,7 @@ module _ {M : Type 1} {𝓤 : Ura M} (𝓛 : Logic 𝓤) (at_mem : Memory → SP
         -- [_5; …; _4; …; _3; …; _2; …; _1; …; room for _0; …; true; what fd owns]
         move ! (12 ∷ []) $ use1 𝓛 (raw ((Blank 𝓛 at_mem run).pre to_blank)) goes_blank $
         calls_at ! fm (Blank 𝓛 at_mem run) known-blank to_blank (no_more !) (λ u.
-        use1 𝓛 (later (some (λ (d : stat). (‵ ftrue ⊛ ‵ (R.own d (u ∷ []))) ⊛ raw (ensured 𝓛 blank.ended (blank.clauses 𝓛 at_mem run) tt tt tt d)))) (id⊢ 𝓤 _) $ await ! tt $ pick ! (λ d.
+        use1 𝓛 (later (some (λ (d : stat). (‵ ftrue ⊛ ‵ (R.own_val d (u ∷ []))) ⊛ raw (ensured 𝓛 blank.ended (blank.clauses 𝓛 at_mem run) tt tt tt d)))) (id⊢ 𝓤 _) $ await ! tt $ pick ! (λ d.
         split ! $ move ! (1 ∷ []) $ drop ! $ split ! $ drop ! $ peeks ! R (Is R) (shows 𝓛 R) d (u ∷ []) (λ is.
         land ! (from ! (stop !)) (init ! 3 refl ((LL.lawful T.the_type T'.the_laws 𝓛).typed d _ is).0) $
         assigns ! (of_opd ! (load ! (from ! (stop !)) (look ! 3 refl))) (from ! (stop !)) (init ! 7 refl ((LL.lawful T.the_type T'.the_laws 𝓛).typed d _ is).0) $
@@ -171,7 +171,7 @@ module _ {M : Type 1} {𝓤 : Ura M} (𝓛 : Logic 𝓤) (at_mem : Memory → SP
         land ! (from ! (stop !)) (init ! 10 refl ((sint_Lawful 𝓛 w32).typed r _ is').0) $
         -- the lifetime is ended, and the struct comes back
         move ! (1 ∷ []) $ lft_end ! tt $ move ! (0 ∷ 5 ∷ 3 ∷ []) $ use3 𝓛 (later (‵ ((mem R).own_at ws.1.0 l₂ 0))) (ref_back 𝓛 R (ν ∷ []) δ ws.1.0 l₂ 0) $ await ! tt $
-        use1 𝓛 (‵ (fat full_share T'.mir l₂ 0 (val ws.1.0)) ⊛ ‵ (R.own ws.1.0 (val ws.1.0 ∷ []))) (lies_out ws.1.0 l₂) $ split ! $ move ! (1 ∷ []) $
+        use1 𝓛 (‵ (fat full_share T'.mir l₂ 0 (val ws.1.0)) ⊛ ‵ (R.own_val ws.1.0 (val ws.1.0 ∷ []))) (lies_out ws.1.0 l₂) $ split ! $ move ! (1 ∷ []) $
         -- [what the struct owns; _2; the answer; true; true; _5; …; _4; …; _3; …; …; _1; …; _0; …]
         peeks ! R (Is R) (shows 𝓛 R) ws.1.0 (val ws.1.0 ∷ []) (λ is''.
         assigns ! (of_opd ! (load ! (from ! (stop !)) (look ! 1 refl))) (from ! (stop !)) (store ! 7 refl ((LL.lawful T.the_type T'.the_laws 𝓛).typed ws.1.0 _ is'').0) $

@@ -147,7 +147,7 @@ module _ {M : Type 1} {𝓤 : Ura M} (𝓛 : Logic 𝓤) (at_mem : Memory → SP
   Own = (ShrSlice (named 0) κ u8).own_val s (v ∷ [])
 
   abbrev Held : FigReader → Fml
-  Held d = R.own d (T'.lowered d ∷ [])
+  Held d = R.own_val d (T'.lowered d ∷ [])
 
   -- what the struct of what was found owns, which are only facts, and what they say of its machine value
   abbrev Found : Walked → Fml
@@ -171,7 +171,7 @@ module _ {M : Type 1} {𝓤 : Ura M} (𝓛 : Logic 𝓤) (at_mem : Memory → SP
   unfolding part_of
   lies_in d b =
       qed 𝓛 (‵ (fat full_share (T'.mir erased) b 0 (T'.lowered d)) ∷ ‵ (Held d) ∷ []) ∵ use1 𝓛 (‵ (cell_at full_share R.mir (T'.lowered d ∷ []) b 0)) (𝓛.laws.at_raw full_share (T'.mir erased) b 0 (T'.lowered d)) $
-      fjoin ! $ fpack ! (List Val) (λ us. fsep (cell_at full_share R.mir us b 0) (R.own d us)) (T'.lowered d ∷ []) $ done !
+      fjoin ! $ fpack ! (List Val) (λ us. fsep (cell_at full_share R.mir us b 0) (R.own_val d us)) (T'.lowered d ∷ []) $ done !
 
   lies_out : (d : FigReader) (b : ℕ) → ent 𝓤 (sem 𝓛 ((mem R).own_at d b 0)) (sep 𝓤 (sem 𝓛 (fat full_share (T'.mir erased) b 0 (T'.lowered d))) (sem 𝓛 (Held d)))
   unfolding part_of
@@ -296,13 +296,13 @@ module _ {M : Type 1} {𝓤 : Ura M} (𝓛 : Logic 𝓤) (at_mem : Memory → SP
       alloc1 ! (λ l₀. alloc1 ! (λ l₁. alloc1 ! (λ l₂. alloc1 ! (λ l₃. alloc1 ! (λ l₄. alloc1 ! (λ l₅. alloc1 ! (λ l₆. alloc1 ! (λ l₇. alloc0 ! $ params1 ! $ pass1 ! (init ! 12 refl ((shr_slice_Lawful 𝓛 (named 0) κ u8).typed s (v ∷ []) p).0) $ pass0 ! $
       move ! (16 ∷ []) $ use1 𝓛 (raw ((Over 𝓛 at_mem run).pre to_over) ⊛ ‵ Own) goes_over $ split ! $
       calls_at ! (fm_of 𝓤 H 𝓛.laws 𝓣) (Over 𝓛 at_mem run) Known-over to_over (and_then ! (load ! (from ! (stop !)) (look ! 14 refl)) (no_more !)) (λ u.
-      use1 𝓛 (later (some (λ (d : FigReader). ((‵ (flft κ q) ⊛ ‵ ftrue) ⊛ ‵ (R.own d (u ∷ []))) ⊛ raw (ensured 𝓛 over.ended (over.clauses 𝓛 at_mem run) (κ, tt) (s, tt) tt d)))) (id⊢ 𝓤 _) $ await ! tt $ pick ! (λ d.
+      use1 𝓛 (later (some (λ (d : FigReader). ((‵ (flft κ q) ⊛ ‵ ftrue) ⊛ ‵ (R.own_val d (u ∷ []))) ⊛ raw (ensured 𝓛 over.ended (over.clauses 𝓛 at_mem run) (κ, tt) (s, tt) tt d)))) (id⊢ 𝓤 _) $ await ! tt $ pick ! (λ d.
       split ! $ move ! (1 ∷ []) $ drop ! $ split ! $ move ! (1 ∷ []) $
       -- [what the reader owns; the token; what the slice owns; _7; …; _6; …; _5; …; _4; …; _3; …; _2; …; _1; …; room for _0; …]
       peeks ! R (Is R) (shows 𝓛 R) d (u ∷ []) (λ is.
       land ! (from ! (stop !)) (init ! 7 refl ((LL.lawful D L 𝓛).typed d _ is).0) $
       assigns ! (of_opd ! (load ! (from ! (stop !)) (look ! 7 refl))) (from ! (stop !)) (init ! 13 refl ((LL.lawful D L 𝓛).typed d _ is).0) $
-      rewrite ! 13 (λ (z : Val). ‵ (fat full_share (ty 2) l₂ 0 z)) (ap only (LL.tells D L d _ is)) refl $ rewrite ! 0 (λ (zs : List Val). ‵ (R.own d zs)) (LL.tells D L d _ is) refl $ forget ! 7 refl $
+      rewrite ! 13 (λ (z : Val). ‵ (fat full_share (ty 2) l₂ 0 z)) (ap only (LL.tells D L d _ is)) refl $ rewrite ! 0 (λ (zs : List Val). ‵ (R.own_val d zs)) (LL.tells D L d _ is) refl $ forget ! 7 refl $
       nothing ! $ use1 𝓛 (raw ((Begun 𝓛 at_mem run).pre ((tt, tt, tt, tt, tt), tt))) goes_begun $
       calls_at ! (fm_of 𝓤 H 𝓛.laws 𝓣) (Begun 𝓛 at_mem run) known-begun ((tt, tt, tt, tt, tt), tt) (no_more !) (λ x.
       use1 𝓛 (later (some (λ (w : Walked). (‵ ftrue ⊛ ‵ ((N.the_row).own_val w (x ∷ []))) ⊛ raw (ensured 𝓛 begun.ended (begun.clauses 𝓛 at_mem run) tt tt tt w)))) (id⊢ 𝓤 _) $ await ! tt $ pick ! (λ w.

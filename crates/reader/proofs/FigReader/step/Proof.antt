@@ -123,7 +123,7 @@ module _ {M : Type 1} {𝓤 : Ura M} (𝓛 : Logic 𝓤) (at_mem : Memory → SP
   Post = (walk_of 𝓛 step.ended stayed (step.clauses 𝓛 at_mem run)).post (((κ, (κ', tt)), (q, (q', tt)), bounds, x, vals), tt)
 
   abbrev Own : Fml
-  Own = R.own h (mach h.at ∷ [])
+  Own = R.own_val h (mach h.at ∷ [])
 
   -- the call of `Cursor::step`: what it is passed and asks, and what is known of its result
   abbrev here : Cursor
@@ -166,7 +166,7 @@ module _ {M : Type 1} {𝓤 : Ura M} (𝓛 : Logic 𝓤) (at_mem : Memory → SP
   after_said r m = ex_e 𝓤 _ (λ ws. snd∗ 𝓤 (sem 𝓛 (lasts place_after.ended tt (h.at, (r, tt)) ws)) (fact 𝓤 (m ≡ place_after h.at r)))
 
   -- what fib owns is kept, and the place's facts are made anew
-  again : (m : ℕ) → m < 2 ^ 64 → ent 𝓤 (sem 𝓛 Own) (sem 𝓛 (R.own (h' m) (mach m ∷ [])))
+  again : (m : ℕ) → m < 2 ^ 64 → ent 𝓤 (sem 𝓛 Own) (sem 𝓛 (R.own_val (h' m) (mach m ∷ [])))
   again m fits = qed 𝓛 (‵ Own ∷ []) ∵ owned ! usize (Is usize) (uint_Makes 𝓛 w64) m _ (refl, fits) $ move ! (1 ∷ 0 ∷ []) $ by ! (own_put 𝓛 D L 1 vh m (mach h.at))
 
   exits : (r : FigStep) (u : Val) (m : ℕ) → r ≡ found → m ≡ place_after h.at r
@@ -212,7 +212,7 @@ module _ {M : Type 1} {𝓤 : Ura M} (𝓛 : Logic 𝓤) (at_mem : Memory → SP
         assigns ! (of_opd ! (load ! (from ! (stop !)) (look ! 15 refl))) (from ! (hop ! (look ! 19 refl) (fld ! refl (stop !)))) (store_in ! 5 (sub ! 1 refl (whole !)) (tt, record { fits = is'.1 })) $
         assigns ! (of_opd ! (load ! (from ! (stop !)) (look ! 17 refl))) (from ! (stop !)) (init ! 21 refl ((EL.lawful S.the_type S'.the_laws 𝓛 tt).typed r _ is).0) $
         -- the borrow is closed at the reader with the new place
-        move ! (4 ∷ []) $ use1 𝓛 (‵ (R.own (h' m) (mach m ∷ []))) (again m is'.1) $
+        move ! (4 ∷ []) $ use1 𝓛 (‵ (R.own_val (h' m) (mach m ∷ []))) (again m is'.1) $
         move ! (5 ∷ []) $ use1 𝓛 (‵ (cell_at full_share R.mir (mach m ∷ []) b o)) (𝓛.laws.at_raw full_share (T'.mir erased) b o (mach m)) $
         move ! (0 ∷ 1 ∷ 6 ∷ 7 ∷ 8 ∷ []) $ closes ! tt R (h' m) (mach m ∷ []) b o $
         returns ! (look ! 19 refl) $ forget ! 7 refl $ forget ! 9 refl $ forget ! 11 refl $ forget ! 13 refl $ forget ! 15 refl $ forget ! 17 refl $ forget ! 19 refl $

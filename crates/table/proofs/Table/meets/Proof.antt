@@ -1,10 +1,9 @@
--- `table::Table::meets` meets its contract: the test of a table is that of its sets, then that of their numbers, then that of its totals, and then that of its
--- services.
+-- `table::Table::meets` meets its contract: the test of a table is that of its sets, then that of their numbers, and then that of its totals.
 use Prim.Native.Nat.{◌≤◌}
 use borrow.Author.Rules.{rules}
 use borrow.Author.Tests.{not-true, not-false}
 use Rattle.rules.specs.Collecting.{most_blocks}
-use Rattle.table.proofs.GivenLaws.{tested_wrong, tested_numbers, tested_totals, tested_services}
+use Rattle.table.proofs.GivenLaws.{tested_wrong, tested_numbers, tested_totals}
 use Rattle.table.proofs.Table.meets.Statement.{statement}
 use Rattle.table.proofs.Table.meets.Tie as tie
 
@@ -28,13 +27,7 @@ are_of_requires : tie.Need-are-of-requires
 are_of_requires c κs = search rules
 
 returns_3 : tie.Need-returns-3
-returns_3 c = tested_totals c.before.before.before.before.before.before.before.before.before.before.before.args.self c.before.before.before.before.before.before.before.before.before.meets.ensures c.before.are-of.ensures (not-true _ c.if3.true)
-
-meets_requires_2 : tie.Need-meets-requires-2
-meets_requires_2 c κs = search rules
-
-returns_4 : tie.Need-returns-4
-returns_4 c = tested_services c.before.before.before.before.before.before.before.before.before.before.before.before.before.args.self c.before.before.before.before.before.before.before.before.before.before.before.meets.ensures (count_fits_law c.before.before.before.before.before.before.before.before.before.before.before.before.before) (not-false _ c.before.before.before.before.before.before.before.before.before.before.if1.false) c.before.before.before.before.before.before.all-within.ensures (not-false _ c.before.before.before.before.before.if2.false) c.before.before.before.are-of.ensures (not-false _ c.before.before.if3.false) c.meets2.ensures
+returns_3 c = tested_totals c.before.before.before.before.before.before.before.before.before.before.args.self c.before.before.before.before.before.before.before.before.meets.ensures (count_fits_law c.before.before.before.before.before.before.before.before.before.before) (not-false _ c.before.before.before.before.before.before.before.if1.false) c.before.before.before.all-within.ensures (not-false _ c.before.before.if2.false) c.are-of.ensures
 
 pub meets_spec : {M : Type 1} → statement M
-meets_spec = tie.close (tie.spec meets_requires returns all_within_requires returns_2 are_of_requires returns_3 meets_requires_2 returns_4)
+meets_spec = tie.close (tie.spec meets_requires returns all_within_requires returns_2 are_of_requires returns_3)

@@ -1,2 +1,0 @@
--- The laws above the definitions of specs/.
-pub mod FoundLaws
