@@ -14,6 +14,5 @@ slice_bounds-check_of-end c =
 
 pub returns : goal.returns
 returns c =
-    let s = c in
-    block_made _ (piece_few s.args.key s.args.on s.args.part s.args.numbers.now s.requires)
+    block_made _ (piece_few c.args.key c.args.on c.args.part c.args.numbers.now c.requires)
     c.put_fig-end.ensures c.put.ensures _ c.check_of-check.ensures.0

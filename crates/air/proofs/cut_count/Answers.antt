@@ -14,14 +14,13 @@ loop-from-init c = (omega arith, omega arith, omega arith)
 
 -- the range that was found is the next piece
 turn : (c : goal.After-part_at-part)
-    → Turn c.args.key c.args.t1
+    → Turn c.args.key c.args.list
     c.loop-from.from c.part_at-part.result
 turn c =
-    let s = c in
-    let l = s.args.t1 in
+    let l = c.args.list in
     let nl : length l.numbers ≡ most_ids = search rules in
     let kl : length l.kinds ≡ most_ids = search rules in
-    part_turn l nl kl s.requires s.args.key c.loop-from.from c.part_at-part.result
+    part_turn l nl kl c.requires c.args.key c.loop-from.from c.part_at-part.result
     c.loop-from-test.true c.part_at-part.ensures
 
 pub loop-from-smaller : goal.loop-from-smaller
@@ -35,7 +34,7 @@ loop-from-preserved c =
 pub returns : goal.returns
 returns c =
     let at = c.loop-from in
-    let l = c.args.t1 in
+    let l = c.args.list in
     let nl : length l.numbers ≡ most_ids = search rules in
     let kl : length l.kinds ≡ most_ids = search rules in (
       omega (arith, at.invariant.2, ap length (left_none l nl kl c.requires c.args.key at.from at.invariant.1 c.loop-from-test.false)),

@@ -9,11 +9,9 @@ use Rattle.air.proofs.piece_count.Goals as goal
 pub returns : goal.returns
 unfolding set_in
 returns c =
-    let b = c in
-    let s = b in
-    let r = b.bit_of-r.ensures.0 ∙ ap bit b.is_dead.ensures in
+    let r = c.bit_of-r.ensures.0 ∙ ap bit c.is_dead.ensures in
     let d = c.bit_of-d.ensures.0 ∙ ap bit c.is_dead-2.ensures in
-    let n = b.cut_count-n.ensures in (
-      omega (arith, n.0, r, d, pieces_length s.args.key (set_in s.args.t1)),
-      omega (arith, n.1, b.bit_of-r.ensures.1, c.bit_of-d.ensures.1),
+    let n = c.cut_count-n.ensures in (
+      omega (arith, n.0, r, d, pieces_length c.args.key (set_in c.args.list)),
+      omega (arith, n.1, c.bit_of-r.ensures.1, c.bit_of-d.ensures.1),
     )

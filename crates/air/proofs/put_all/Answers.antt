@@ -11,7 +11,7 @@ use Rattle.air.proofs.put_all.Goals as goal
 pub loop-i-init : goal.loop-i-init
 loop-i-init c =
     let a = c.args in
-    subst (Going a.out-1.now 0 (all_blocks (sets_from a.t3 0 a.count)) a.out-1.now 0) (sym (blocks_all a.t3 a.count)) (going_start _ _ 0 0 (omega arith))
+    subst (Going a.out.now 0 (all_blocks (sets_from a.sets 0 a.count)) a.out.now 0) (sym (blocks_all a.sets a.count)) (going_start _ _ 0 0 (omega arith))
 
 pub put_set-p-requires : goal.put_set-p-requires
 unfolding EachHolds
@@ -20,10 +20,9 @@ put_set-p-requires c = c.requires.1 c.loop-i.i (omega arith)
 pub loop-i-preserved : goal.loop-i-preserved
 unfolding EachHolds
 loop-i-preserved c =
-    let b = c in
-    let a = b.args in
+    let a = c.args in
     let h = c.loop-i-test.true in
-    going_on (blocks_next a.t3 b.loop-i.i a.count (b.requires.1 b.loop-i.i (omega (arith, h, b.requires.0))) h) b.loop-i.invariant c.put_set-p.ensures
+    going_on (blocks_next a.sets c.loop-i.i a.count (c.requires.1 c.loop-i.i (omega (arith, h, c.requires.0))) h) c.loop-i.invariant c.put_set-p.ensures
 
 pub shape_of-out : goal.shape_of-out
 shape_of-out c = c.loop-i.invariant.long
@@ -31,4 +30,4 @@ shape_of-out c = c.loop-i.invariant.long
 pub returns : goal.returns
 returns c =
     let a = c.args in
-    going_end (blocks_end a.t3 c.loop-i.i a.count c.loop-i-test.false) c.loop-i.invariant
+    going_end (blocks_end a.sets c.loop-i.i a.count c.loop-i-test.false) c.loop-i.invariant

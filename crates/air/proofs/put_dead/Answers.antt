@@ -13,19 +13,17 @@ use Rattle.air.proofs.put_dead.Goals as goal
 
 pub put_block-requires : goal.put_block-requires
 put_block-requires c =
-    let s = c in
-    let nl : length s.args.t5.numbers ≡ most_ids = search rules in
-    record { ahead = omega arith; inside = omega arith; few = omega arith; kind = s.requires }
+    let nl : length c.args.list.numbers ≡ most_ids = search rules in
+    record { ahead = omega arith; inside = omega arith; few = omega arith; kind = c.requires }
 
 pub returns-then-is_dead : goal.returns-then-is_dead
 unfolding blocks_of set_in
 returns-then-is_dead c =
-    let b = c in
-    let a = b.args in
+    let a = c.args in
     puts_as
-    (ap (λ (p : Piece). block_of (fig_bytes a.key a.on p)) (dead_piece a.t5.numbers a.kind)
+    (ap (λ (p : Piece). block_of (fig_bytes a.key a.on p)) (dead_piece a.list.numbers a.kind)
     ∙ sym (append-nil _)
-    ∙ ap (blocks_of a.key a.on) (sym (dead_there a.kind a.named (set_in a.t5).items (sym b.is_dead.ensures ∙ b.if-is_dead.true))))
+    ∙ ap (blocks_of a.key a.on) (sym (dead_there a.kind a.named (set_in a.list).items (sym c.is_dead.ensures ∙ c.if-is_dead.true))))
     c.put_block.ensures
 
 pub returns-else-is_dead : goal.returns-else-is_dead
@@ -33,5 +31,5 @@ unfolding blocks_of set_in
 returns-else-is_dead c =
     let a = c.args in
     puts_as
-    (ap (blocks_of a.key a.on) (sym (dead_none a.kind a.named (set_in a.t5).items (sym c.is_dead.ensures ∙ c.if-is_dead.false))))
+    (ap (blocks_of a.key a.on) (sym (dead_none a.kind a.named (set_in a.list).items (sym c.is_dead.ensures ∙ c.if-is_dead.false))))
     (puts_none _ _ _ c.least.ensures)

@@ -14,8 +14,7 @@ use Rattle.air.proofs.put_fig.Goals as goal
 small : (c : goal.After-bit_of-state)
     → (c.args.part.to - c.args.part.from) * c.width_of_lem.result ≤ 24
 small c =
-    let s = c in
-    rw c.width_of_lem.ensures (ids_few s.args.key (s.args.part.to - s.args.part.from) (omega (arith, s.requires.few)))
+    rw c.width_of_lem.ensures (ids_few c.args.key (c.args.part.to - c.args.part.from) (omega (arith, c.requires.few)))
 
 pub overflow_mul-head : goal.overflow_mul-head
 overflow_mul-head c = omega (arith, small c)
@@ -27,21 +26,18 @@ pub overflow_cast-head : goal.overflow_cast-head
 overflow_cast-head c = omega (arith, small c)
 
 pub overflow_cast-head-5 : goal.overflow_cast-head-5
-overflow_cast-head-5 c = let s = c in omega (arith, s.requires.few, most_small (key_width s.args.key))
+overflow_cast-head-5 c = omega (arith, c.requires.few, most_small (key_width c.args.key))
 
 pub overflow_add-head-9 : goal.overflow_add-head-9
-overflow_add-head-9 c = let s = c in omega (arith, s.requires.few, s.requires.kind, most_small (key_width s.args.key))
+overflow_add-head-9 c = omega (arith, c.requires.few, c.requires.kind, most_small (key_width c.args.key))
 
 pub put_numbers-requires : goal.put_numbers-requires
 put_numbers-requires c =
-    let s = c in
-    (omega (arith, c.width_of_lem.ensures, width_most s.args.key), s.requires.ahead, s.requires.inside)
+    (omega (arith, c.width_of_lem.ensures, width_most c.args.key), c.requires.ahead, c.requires.inside)
 
 pub returns : goal.returns
 returns c =
-    let b = c in
-    let s = b in
     puts_as
-    (fig_made s.args.key s.args.on s.args.part s.args.numbers.now _ _ _ _ b.width_of_lem.ensures refl s.requires.inside
-    b.bit_of-more.ensures.0 b.bit_of-state.ensures.0)
+    (fig_made c.args.key c.args.on c.args.part c.args.numbers.now _ _ _ _ c.width_of_lem.ensures refl c.requires.inside
+    c.bit_of-more.ensures.0 c.bit_of-state.ensures.0)
     (puts_then c.put_bytes-p.ensures c.put_numbers.ensures)

@@ -13,11 +13,9 @@ loop-i-init c = (omega arith, going_start _ _ _ _ c.least-p.ensures)
 pub loop-i-preserved : goal.loop-i-preserved
 unfolding all_bytes
 loop-i-preserved c =
-    let b = c in
-    let s = b in
-    let more : slice b.loop-i.i s.args.to s.args.numbers.now ≡ _ =
-    slice-cons b.loop-i.i s.args.to s.args.numbers.now 0 c.loop-i-test.true s.requires.2 in
-    (omega arith, going_on (rw (add-one b.loop-i.i) (ap (all_bytes s.args.width) more)) b.loop-i.invariant.1 c.put_number-p.ensures)
+    let more : slice c.loop-i.i c.args.to c.args.numbers.now ≡ _ =
+    slice-cons c.loop-i.i c.args.to c.args.numbers.now 0 c.loop-i-test.true c.requires.2 in
+    (omega arith, going_on (rw (add-one c.loop-i.i) (ap (all_bytes c.args.width) more)) c.loop-i.invariant.1 c.put_number-p.ensures)
 
 pub shape_of-out : goal.shape_of-out
 shape_of-out c = c.loop-i.invariant.1.long
@@ -25,9 +23,8 @@ shape_of-out c = c.loop-i.invariant.1.long
 pub returns : goal.returns
 unfolding all_bytes
 returns c =
-    let s = c in
-    let at : c.loop-i.i ≡ s.args.to = omega (arith, c.loop-i.invariant.0, c.loop-i-test.false) in
+    let at : c.loop-i.i ≡ c.args.to = omega (arith, c.loop-i.invariant.0, c.loop-i-test.false) in
     going_end
-    (ap (λ (i : ℕ). all_bytes s.args.width (slice i s.args.to s.args.numbers.now)) at
-    ∙ ap (all_bytes s.args.width) (slice_empty s.args.to s.args.numbers.now))
+    (ap (λ (i : ℕ). all_bytes c.args.width (slice i c.args.to c.args.numbers.now)) at
+    ∙ ap (all_bytes c.args.width) (slice_empty c.args.to c.args.numbers.now))
     c.loop-i.invariant.1

@@ -5,15 +5,12 @@ use Rattle.air.proofs.start_qualifier.Goals as goal
 
 pub returns-then-len-lt2 : goal.returns-then-len-lt2
 returns-then-len-lt2 c =
-    let s = c in
-    c.first_of.ensures ∙ qualifier_alone s.args.key _ _ s.requires.0 c.if-len-lt2.true s.requires.1
+    c.first_of.ensures ∙ qualifier_alone c.args.key _ _ c.requires.0 c.if-len-lt2.true c.requires.1
 
 pub returns-then-first_of-first : goal.returns-then-first_of-first
 returns-then-first_of-first c =
-    let s = c in
-    qualifier_next s.args.key _ _ _ c.if-len-lt2.false s.requires.1 c.first_of-2.ensures c.if-first_of-first.true
+    qualifier_next c.args.key _ _ _ c.if-len-lt2.false c.requires.1 c.first_of-2.ensures c.if-first_of-first.true
 
 pub returns-else-first_of-first : goal.returns-else-first_of-first
 returns-else-first_of-first c =
-    let s = c in
-    qualifier_own s.args.key _ _ _ c.if-len-lt2.false s.requires.1 c.first_of-2.ensures c.if-first_of-first.false
+    qualifier_own c.args.key _ _ _ c.if-len-lt2.false c.requires.1 c.first_of-2.ensures c.if-first_of-first.false

@@ -11,30 +11,26 @@ use Rattle.air.proofs.write_air.Goals as goal
 pub returns-then-not-meets : goal.returns-then-not-meets
 returns-then-not-meets c =
     answer_wrong c.args.table c.args.out.now
-    (λ s. fails refl (not-true _ c.if-not-meets.true) (c.meets.ensures.complete s))
+    (λ s. fails refl c.if-not-meets.true (c.meets.ensures.complete s))
 
 pub count_all-requires : goal.count_all-requires
 count_all-requires c =
-    let f = stored_facts _ (sets_stored _ (c.meets.ensures.sound (not-false _ c.if-not-meets.false))) in
+    let f = stored_facts _ (sets_stored _ (c.meets.ensures.sound c.if-not-meets.false)) in
     (f.short, f.shown_hold)
 
 pub returns-then-out-count_all : goal.returns-then-out-count_all
 returns-then-out-count_all c =
-    let b = c in
-    let a = b.args in
-    answer_short a.table (b.meets.ensures.sound (not-false _ b.if-not-meets.false)) a.out-1.now c.count_all.result
+    let a = c.args in
+    answer_short a.table (c.meets.ensures.sound c.if-not-meets.false) a.out.now c.count_all.result
     c.count_all.ensures.0 c.if-out-count_all.true
 
 pub put_all-size-requires : goal.put_all-size-requires
 put_all-size-requires c =
-    let b = c in
-    let f = stored_facts _ (sets_stored _ (b.meets.ensures.sound (not-false _ b.if-not-meets.false))) in
+    let f = stored_facts _ (sets_stored _ (c.meets.ensures.sound c.if-not-meets.false)) in
     (omega (arith, f.short), f.shown_hold)
 
 pub returns : goal.returns
 returns c =
-    let b = c in
-    let a = b.args in
-    let n = c in
-    answer_done a.table (b.meets.ensures.sound (not-false _ b.if-not-meets.false)) a.out-1.now n.count_all.result
-    n.count_all.ensures.0 _ _ c.if-out-count_all.false c.put_all_lem.ensures
+    let a = c.args in
+    answer_done a.table (c.meets.ensures.sound c.if-not-meets.false) a.out.now c.count_all.result
+    c.count_all.ensures.0 _ _ c.if-out-count_all.false c.put_all_lem.ensures

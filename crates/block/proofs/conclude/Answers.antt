@@ -14,21 +14,18 @@ returns-then-class-eq4 c = concludes_refused _ _ _ _ (λ ls. simp (eq-eqb _ _ c.
 pub returns-then-class-eq5 : goal.returns-then-class-eq5
 unfolding answer_of judged_as
 returns-then-class-eq5 c =
-    let b = c in
-    concludes_refused _ _ _ _ (λ ls. simp (ne_eqb _ _ b.if-class-eq4.false, eq-eqb _ _ b.if-class-eq5.true)) c.refuse-then-class-eq5.ensures
+    concludes_refused _ _ _ _ (λ ls. simp (ne_eqb _ _ c.if-class-eq4.false, eq-eqb _ _ c.if-class-eq5.true)) c.refuse-then-class-eq5.ensures
 
 pub returns-then-class-eq6 : goal.returns-then-class-eq6
 unfolding answer_of judged_as
 returns-then-class-eq6 c =
-    let b = c in
     concludes_refused _ _ _ _
-    (λ ls. simp (ne_eqb _ _ b.if-class-eq4.false, ne_eqb _ _ b.if-class-eq5.false, eq-eqb _ _ b.if-class-eq6.true))
+    (λ ls. simp (ne_eqb _ _ c.if-class-eq4.false, ne_eqb _ _ c.if-class-eq5.false, eq-eqb _ _ c.if-class-eq6.true))
     c.refuse-then-class-eq6.ensures
 
 pub returns : goal.returns
 unfolding answer_of judged_as
 returns c =
-    let b = c in
     concludes_taken _ _
-    (λ ls. simp (ne_eqb _ _ b.if-class-eq4.false, ne_eqb _ _ b.if-class-eq5.false, ne_eqb _ _ b.if-class-eq6.false))
+    (λ ls. simp (ne_eqb _ _ c.if-class-eq4.false, ne_eqb _ _ c.if-class-eq5.false, ne_eqb _ _ c.if-class-eq6.false))
     refl

@@ -9,10 +9,8 @@ returns-then-fib-ne32 c = judges_no_block _ _ c.if-fib-ne32.true c.refuse.ensure
 
 pub returns-then-not-check_holds : goal.returns-then-not-check_holds
 returns-then-not-check_holds c =
-    let t = c in
-    judges_check _ _ t.if-fib-ne32.false t.check_holds.result t.check_holds.ensures (not-true _ c.if-not-check_holds.true) c.refuse-then-not-check_holds.ensures
+    judges_check _ _ c.if-fib-ne32.false c.check_holds.result c.check_holds.ensures c.if-not-check_holds.true c.refuse-then-not-check_holds.ensures
 
 pub returns : goal.returns
 returns c =
-    let t = c in
-    judges_figs _ _ t.if-fib-ne32.false t.check_holds.result t.check_holds.ensures (not-false _ c.if-not-check_holds.false) c.judge_figs.ensures
+    judges_figs _ _ c.if-fib-ne32.false c.check_holds.result c.check_holds.ensures c.if-not-check_holds.false c.judge_figs.ensures

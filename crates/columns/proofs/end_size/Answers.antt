@@ -12,7 +12,7 @@ use Rattle.columns.proofs.end_size.Goals as goal
 pub returns-then-not-numbered : goal.returns-then-not-numbered
 unfolding end_text number_if number_text
 returns-then-not-numbered c =
-    let e : c.args.numbered ≡ false = not-true _ c.if-not-numbered.true in
+    let e : c.args.numbered ≡ false = c.if-not-numbered.true in
     (rw e, omega arith)
 
 pub returns-then-csv : goal.returns-then-csv
@@ -20,7 +20,7 @@ unfolding number_if number_text
 returns-then-csv c =
     let n = c.args.block in
     let h : n < 2 ^ 32 = search rules in
-    let e : c.args.numbered ≡ true = not-false _ c.if-not-numbered.false in
+    let e : c.args.numbered ≡ true = c.if-not-numbered.false in
     (rw (e, c.if-csv.true) (omega (arith, c.decimal_size.ensures.0, length_end_sheet n)), omega (arith, c.decimal_size.ensures.0, narrow_number n h))
 
 pub returns-else-csv : goal.returns-else-csv
@@ -28,5 +28,5 @@ unfolding number_if number_text
 returns-else-csv c =
     let n = c.args.block in
     let h : n < 2 ^ 32 = search rules in
-    let e : c.args.numbered ≡ true = not-false _ c.if-not-numbered.false in
+    let e : c.args.numbered ≡ true = c.if-not-numbered.false in
     (rw (e, c.if-csv.false) (sym (length_end_eyes n h)), omega arith)

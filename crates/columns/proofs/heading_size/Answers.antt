@@ -16,17 +16,17 @@ overflow_mul-result c = record { fits = omega (arith, c.line_width.ensures, line
 pub returns-then-not-csv : goal.returns-then-not-csv
 returns-then-not-csv c =
     let n = c.args.numbered in
-    let e : c.args.csv ≡ false = not-true _ c.if-not-csv.true in
+    let e : c.args.csv ≡ false = c.if-not-csv.true in
     (rw e (omega (arith, c.line_width.ensures, length_heading n)), omega (arith, c.line_width.ensures, line_most n))
 
 pub returns-then-numbered : goal.returns-then-numbered
 unfolding heading_text names_text cells_text end_text last_name filled gap rule_text
 returns-then-numbered c =
-    let e : c.args.csv ≡ true = not-false _ c.if-not-csv.false in
+    let e : c.args.csv ≡ true = c.if-not-csv.false in
     (rw (e, c.if-numbered.true), omega arith)
 
 pub returns-else-numbered : goal.returns-else-numbered
 unfolding heading_text names_text cells_text end_text last_name filled gap rule_text
 returns-else-numbered c =
-    let e : c.args.csv ≡ true = not-false _ c.if-not-csv.false in
+    let e : c.args.csv ≡ true = c.if-not-csv.false in
     (rw (e, c.if-numbered.false), omega arith)

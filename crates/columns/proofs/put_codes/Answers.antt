@@ -20,7 +20,7 @@ unfolding rows_text code_rows shown_as cell_of pair
 loop-j-preserved c =
     let a = c.args in
     let w = a.rows in
-    let l = a.t4 in
+    let l = a.list in
     let at = c.loop-j in
     let ns : length l.numbers ≡ most_ids = search rules in
     let ks : length l.kinds ≡ most_ids = search rules in
@@ -40,7 +40,7 @@ unfolding rows_text code_rows
 returns c =
     let a = c.args in
     let w = a.rows in
-    let l = a.t4 in
+    let l = a.list in
     let at = c.loop-j in
     let ns : length l.numbers ≡ most_ids = search rules in
     let ks : length l.kinds ≡ most_ids = search rules in

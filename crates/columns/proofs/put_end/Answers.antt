@@ -15,14 +15,14 @@ use Rattle.columns.proofs.put_end.Goals as goal
 pub returns-then-not-numbered : goal.returns-then-not-numbered
 unfolding number_if number_text end_text
 returns-then-not-numbered c =
-    let e : c.args.numbered ≡ false = not-true _ c.if-not-numbered.true in
+    let e : c.args.numbered ≡ false = c.if-not-numbered.true in
     puts_as (rw e) c.put.ensures
 
 pub returns : goal.returns
 unfolding number_if number_text end_text
 returns c =
     let a = c.args in
-    let e : a.numbered ≡ true = not-false _ c.if-not-numbered.false in
+    let e : a.numbered ≡ true = c.if-not-numbered.false in
     let room : 10 - c.least.result ≡ 10 - length (decimal a.block) = omega (arith, c.least.ensures, c.decimal_size.ensures.0) in
     let cell =
     puts_as (ap (λ (k : ℕ). decimal a.block ++ cond a.csv [] (replicate k 32)) room ∙ filled_parts a.csv 10 (decimal a.block))

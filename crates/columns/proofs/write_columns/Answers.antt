@@ -12,23 +12,23 @@ use Rattle.columns.proofs.write_columns.Goals as goal
 
 pub returns-then-not-meets : goal.returns-then-not-meets
 unfolding written_as
-returns-then-not-meets c = given_wrong c.meets.ensures (not-true _ c.if-not-meets.true) refl
+returns-then-not-meets c = given_wrong c.meets.ensures c.if-not-meets.true refl
 
 pub sets_size-requires : goal.sets_size-requires
-sets_size-requires c = tested_short c.args.table c.meets.ensures (not-false _ c.if-not-meets.false)
+sets_size-requires c = tested_short c.args.table c.meets.ensures c.if-not-meets.false
 
 pub returns-then-out-size : goal.returns-then-out-size
 returns-then-out-size c =
     let a = c.args in
-    given_right c.meets.ensures (not-false _ c.if-not-meets.false) (λ d m e.
+    given_right c.meets.ensures c.if-not-meets.false (λ d m e.
     written_short _ _ (omega (arith, c.if-out-size.true, columns_size a.csv a.numbered a.table.sets d m (sets_are _ d m e) c.heading_size.ensures.0 c.sets_size.ensures.0)))
 
 pub put_sets-end-requires : goal.put_sets-end-requires
-put_sets-end-requires c = tested_short c.args.table c.meets.ensures (not-false _ c.if-not-meets.false)
+put_sets-end-requires c = tested_short c.args.table c.meets.ensures c.if-not-meets.false
 
 pub returns : goal.returns
 returns c =
     let a = c.args in
-    given_right c.meets.ensures (not-false _ c.if-not-meets.false) (λ d m e.
+    given_right c.meets.ensures c.if-not-meets.false (λ d m e.
     written_done (omega (arith, c.if-out-size.false, columns_size a.csv a.numbered a.table.sets d m (sets_are _ d m e) c.heading_size.ensures.0 c.sets_size.ensures.0))
     (puts_as (columns_of a.csv a.numbered a.table.sets d m (sets_are _ d m e)) (puts_then c.put_heading-p.ensures c.put_sets-end.ensures)))

@@ -61,46 +61,35 @@ returns-then-body-at-2 c = simp (lt-leb _ _ c.if-body-at.false, lt-ltb _ _ c.if-
 
 pub returns-then-a-lt128 : goal.returns-then-a-lt128
 returns-then-a-lt128 c =
-    let b = c in
-    let x = b.args in
-    short_found x.body.now x.at b.if-body-at.false b.if-body-at-2.false c.head.result c.if-a-lt128.true c.head.ensures
+    let x = c.args in
+    short_found x.body.now x.at c.if-body-at.false c.if-body-at-2.false c.head.result c.if-a-lt128.true c.head.ensures
 
 pub returns-then-body-at-3 : goal.returns-then-body-at-3
 unfolding field_step_at
 returns-then-body-at-3 c =
-    let b = c in
-    simp (lt-leb _ _ b.if-body-at.false, le-ltb _ _ b.if-body-at-2.false, le-ltb _ _ c.if-a-lt128.false, lt-ltb _ _ c.if-body-at-3.true)
+    simp (lt-leb _ _ c.if-body-at.false, le-ltb _ _ c.if-body-at-2.false, le-ltb _ _ c.if-a-lt128.false, lt-ltb _ _ c.if-body-at-3.true)
 
 pub overflow_mul-next : goal.overflow_mul-next
 overflow_mul-next c =
-    let b = c in
-    omega (arith, list_bytes_law b.head-f.result c.width.result _ _ _ _ _ b.head-f.ensures c.width.ensures)
+    omega (arith, list_bytes_law c.head-f.result c.width.result _ _ _ _ _ c.head-f.ensures c.width.ensures)
 
 pub overflow_add-next-2 : goal.overflow_add-next-2
 overflow_add-next-2 c =
-    let b = c in
-    let start = b in
     omega (
       arith,
-      start.well-formed.0,
-      b.if-body-at-3.false,
-      list_bytes_law b.head-f.result c.width.result _ _ _ _ _ b.head-f.ensures c.width.ensures,
+      c.well_formed.0,
+      c.if-body-at-3.false,
+      list_bytes_law c.head-f.result c.width.result _ _ _ _ _ c.head-f.ensures c.width.ensures,
     )
 
 pub returns-then-body-next : goal.returns-then-body-next
 returns-then-body-next c =
-    let d = c in
-    let h = d in
-    let b = h in
-    let x = b.args in
-    list_wrong x.body.now x.at b.if-body-at.false b.if-body-at-2.false h.if-a-lt128.false
-    h.if-body-at-3.false h.head-f.result d.width.result h.head-f.ensures d.width.ensures c.if-body-next.true
+    let x = c.args in
+    list_wrong x.body.now x.at c.if-body-at.false c.if-body-at-2.false c.if-a-lt128.false
+    c.if-body-at-3.false c.head-f.result c.width.result c.head-f.ensures c.width.ensures c.if-body-next.true
 
 pub returns : goal.returns
 returns c =
-    let d = c in
-    let h = d in
-    let b = h in
-    let x = b.args in
-    list_found x.body.now x.at b.if-body-at.false b.if-body-at-2.false h.if-a-lt128.false
-    h.if-body-at-3.false h.head-f.result d.width.result h.head-f.ensures d.width.ensures c.if-body-next.false
+    let x = c.args in
+    list_found x.body.now x.at c.if-body-at.false c.if-body-at-2.false c.if-a-lt128.false
+    c.if-body-at-3.false c.head-f.result c.width.result c.head-f.ensures c.width.ensures c.if-body-next.false

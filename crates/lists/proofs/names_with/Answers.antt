@@ -4,4 +4,4 @@ use Rattle.rules.specs.Collecting.{join_names}
 use Rattle.lists.proofs.names_with.Goals as goal
 
 pub returns : goal.returns
-returns c = c.join_names.ensures ∙ ap (join_names c.args.named) c.Named-by.ensures
+returns c = c.join_names.ensures ∙ ap (join_names c.args.named) c.named_by.ensures

@@ -10,5 +10,5 @@ use Rattle.reading.proofs.opened.Goals as goal
 pub returns : goal.returns
 returns c =
     c.opened_at.ensures
-    ∙ ap (λ (g : Grown). opened_sets c.args.sets c.args.at c.args.key (eqb c.args.f.la 1) g.list-1)
+    ∙ ap (λ (g : Grown). opened_sets c.args.sets c.args.at c.args.key (eqb c.args.f.la 1) g.list)
     (c.with_field-first.ensures ∙ ap (λ (l : IdList). with_field l c.args.body.now c.args.f) c.empty.ensures)

@@ -10,13 +10,13 @@ use Rattle.reading.proofs.read_block.Goals as goal
 
 pub returns-then-not-meets : goal.returns-then-not-meets
 unfolding refused_table
-returns-then-not-meets c = given_wrong c.meets.ensures (not-true _ c.if-not-meets.true) (λ i. record { outcome = WrongTable; place = 0; notes = c.none.ensures i; table = c.args.table })
+returns-then-not-meets c = given_wrong c.meets.ensures c.if-not-meets.true (λ i. record { outcome = WrongTable; place = 0; notes = c.none.ensures i; table = c.args.table })
 
 pub returns-then-fib-ne32 : goal.returns-then-fib-ne32
-returns-then-fib-ne32 c = given_right c.meets.ensures (not-false _ c.if-not-meets.false) (λ d m e. not_a_block d _ _ _ e c.if-fib-ne32.true c.none-then-fib-ne32.ensures)
+returns-then-fib-ne32 c = given_right c.meets.ensures c.if-not-meets.false (λ d m e. not_a_block d _ _ _ e c.if-fib-ne32.true c.none-then-fib-ne32.ensures)
 
 pub run_blocks-run-requires : goal.run_blocks-run-requires
-run_blocks-run-requires c = c.meets.ensures.sound (not-false _ c.if-not-meets.false)
+run_blocks-run-requires c = c.meets.ensures.sound c.if-not-meets.false
 
 pub returns : goal.returns
 unfolding Runs

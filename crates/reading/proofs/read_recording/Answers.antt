@@ -9,10 +9,10 @@ use Rattle.reading.proofs.read_recording.Goals as goal
 
 pub returns-then-not-meets : goal.returns-then-not-meets
 unfolding unrecorded
-returns-then-not-meets c = given_wrong c.meets.ensures (not-true _ c.if-not-meets.true) refl
+returns-then-not-meets c = given_wrong c.meets.ensures c.if-not-meets.true refl
 
 pub run_blocks-run-requires : goal.run_blocks-run-requires
-run_blocks-run-requires c = c.meets.ensures.sound (not-false _ c.if-not-meets.false)
+run_blocks-run-requires c = c.meets.ensures.sound c.if-not-meets.false
 
 pub returns : goal.returns
 unfolding Runs

@@ -171,9 +171,8 @@ slice_bounds-sk-end c = let w = held_place c in omega (arith, (turn c).before.lo
 
 pub row_at-requires : goal.row_at-requires
 row_at-requires c =
-    let h = c in
-    let K = (turn h).before.loop.inv in
-    let w = held_place h in
+    let K = (turn c).before.loop.inv in
+    let w = held_place c in
     (omega (arith, K.shown.lens), omega (arith, K.shown.names))
 
 pub offset_bounds-dn-a : goal.offset_bounds-dn-a
@@ -216,14 +215,13 @@ slice_bounds-on_held-end c = let w = fits (turn (held (set_row c)).before) in om
 pub on_held-held-requires : goal.on_held-held-requires
 on_held-held-requires c =
     let h = held (set_row c) in
-    let s = h in
-    let K = (turn s).before.loop.inv in
+    let K = (turn h).before.loop.inv in
     let w = held_place h in (
-      part_long _ _ (row_size_law (placed s).place_of.result) w _ K.shown.numbers,
-      part_long _ _ (row_size_law (placed s).place_of.result) w _ K.shown.kinds,
-      part_long _ _ (row_size_law (placed s).place_of.result) w _ K.draft.numbers,
-      part_long _ _ (row_size_law (placed s).place_of.result) w _ K.draft.kinds,
-      draft_short K (placed s).place_of.result w _ c.row_at-then-stands_at.ensures,
+      part_long _ _ (row_size_law (placed h).place_of.result) w _ K.shown.numbers,
+      part_long _ _ (row_size_law (placed h).place_of.result) w _ K.shown.kinds,
+      part_long _ _ (row_size_law (placed h).place_of.result) w _ K.draft.numbers,
+      part_long _ _ (row_size_law (placed h).place_of.result) w _ K.draft.kinds,
+      draft_short K (placed h).place_of.result w _ c.row_at-then-stands_at.ensures,
     )
 
 pub offset_bounds-shown-p : goal.offset_bounds-shown-p
@@ -285,18 +283,15 @@ loop-i-smaller-then-stands_at c = let w = (turn (stepped c).before).if1.taken in
 
 pub loop-i-preserved-then-stands_at : goal.loop-i-preserved-then-stands_at
 loop-i-preserved-then-stands_at c =
-    let rows = c in
-    let after = rows in
-    let y = after.on_held-held.new in
-    let h = stepped rows in
-    let s = h in
-    let K = (turn s).before.loop.inv in
-    let p = (placed s).place_of.result in
+    let y = c.on_held-held.new in
+    let h = stepped c in
+    let K = (turn h).before.loop.inv in
+    let p = (placed h).place_of.result in
     let w = held_place h in
-    kept_held K (turn s).if1.taken _ (body_is (turn s)) _ (read s).field.ensures _ (keyed s).key.ensures _ (placed s).place_of.ensures _ (sym s.stands_at.ensures ∙ h.if-stands_at.taken) w _ (row_size_law p) _ _
-    (set_row (both_rows rows)).row_at.ensures (both_rows rows).row-at2.ensures after.on_held-held.result y.0 y.1.0 y.1.1.1.0 y.1.1.1.1.0 after.on_held-held.ensures
-    (rows.sn-then-stands_at-2-1.given ∙ part_long _ _ (row_size_law p) w _ K.shown.numbers) (rows.sk-then-stands_at-2-1.given ∙ part_long _ _ (row_size_law p) w _ K.shown.kinds)
-    (rows.dn-then-stands_at-2-1.given ∙ part_long _ _ (row_size_law p) w _ K.draft.numbers) (rows.dk-then-stands_at-2-1.given ∙ part_long _ _ (row_size_law p) w _ K.draft.kinds)
+    kept_held K (turn h).if1.taken _ (body_is (turn h)) _ (read h).field.ensures _ (keyed h).key.ensures _ (placed h).place_of.ensures _ (sym h.stands_at.ensures ∙ h.if-stands_at.taken) w _ (row_size_law p) _ _
+    (set_row (both_rows c)).row_at.ensures (both_rows c).row-at2.ensures c.on_held-held.result y.0 y.1.0 y.1.1.1.0 y.1.1.1.1.0 c.on_held-held.ensures
+    (c.sn-then-stands_at-2-1.given ∙ part_long _ _ (row_size_law p) w _ K.shown.numbers) (c.sk-then-stands_at-2-1.given ∙ part_long _ _ (row_size_law p) w _ K.shown.kinds)
+    (c.dn-then-stands_at-2-1.given ∙ part_long _ _ (row_size_law p) w _ K.draft.numbers) (c.dk-then-stands_at-2-1.given ∙ part_long _ _ (row_size_law p) w _ K.draft.kinds)
     _ c.confirmed_by.ensures _ c.exchanged-totals.ensures c.noted-reply.ensures
 
 pub slice_bounds-sets_of-end-then-opens-3 : goal.slice_bounds-sets_of-end-then-opens-3
@@ -349,10 +344,8 @@ loop-i-preserved-then-opens c =
     let open' = opened_now again in
     let g = gathered_now open' in
     let h = new_key g in
-    let s = h in
-    let asked = g in
-    kept_new (turn s).before.loop.inv (turn s).if1.taken _ (body_is (turn s)) _ (read s).field.ensures _ (keyed s).key.ensures _ (placed s).place_of.ensures _ (sym s.stands_at.ensures ∙ h.if-stands_at.left)
-    (sym asked.opens.ensures ∙ g.if-opens.taken) (bytes_of (turn s).before) open'.opened-laid.result g.sets_of-now.result g.sets_of-now.ensures open'.opened-laid.ensures _ _ _ _ _ _
+    kept_new (turn h).before.loop.inv (turn h).if1.taken _ (body_is (turn h)) _ (read h).field.ensures _ (keyed h).key.ensures _ (placed h).place_of.ensures _ (sym h.stands_at.ensures ∙ h.if-stands_at.left)
+    (sym g.opens.ensures ∙ g.if-opens.taken) (bytes_of (turn h).before) open'.opened-laid.result g.sets_of-now.result g.sets_of-now.ensures open'.opened-laid.ensures _ _ _ _ _ _
     c.scatter-shown-then-opens.ensures c.scatter-draft-then-opens.ensures c.noted-reply-then-opens.ensures
 
 pub noted-reply-requires-else-opens : goal.noted-reply-requires-else-opens
@@ -366,41 +359,33 @@ loop-i-smaller-else-opens c = let w = (turn c).if1.taken in omega arith
 
 pub loop-i-preserved-else-opens : goal.loop-i-preserved-else-opens
 loop-i-preserved-else-opens c =
-    let h = c in
-    let s = h in
-    kept_same (turn s).before.loop.invariant (turn s).if1.true _ (body_is (turn s)) _ (read s).field.ensures _ (keyed s).key.ensures _ (placed s).place_of.ensures _ (sym s.stands_at.ensures ∙ h.if-stands_at.false) (sym c.opens.ensures ∙ c.if-opens.false) c.unheld_note.result c.unheld_note.ensures c.noted-reply-else-opens.ensures
+    kept_same (turn c).before.loop.invariant (turn c).if1.true _ (body_is (turn c)) _ (read c).field.ensures _ (keyed c).key.ensures _ (placed c).place_of.ensures _ (sym c.stands_at.ensures ∙ c.if-stands_at.false) (sym c.opens.ensures ∙ c.if-opens.false) c.unheld_note.result c.unheld_note.ensures c.noted-reply-else-opens.ensures
 
 pub sets_of-left-requires : goal.sets_of-left-requires
 sets_of-left-requires c = let K = c.loop-i.invariant in (K.shown.numbers, K.shown.kinds, K.draft.numbers, K.draft.kinds, K.shown_laid, K.draft_laid)
 
 pub returns-then-bytes-at-lt32 : goal.returns-then-bytes-at-lt32
 returns-then-bytes-at-lt32 c =
-    let b = c in
-    let l = b in
-    kept_end l.loop-i.invariant b.if-i-spots.false b.if-bytes-at-lt32.true (start l).args.table (laid_first l) c.of.result (c.of.ensures ∙ ap (λ (x : Sets). table_of x l.loop-i.totals l.loop-i.blocks) c.sets_of-left.ensures)
+    kept_end c.loop-i.invariant c.if-i-spots.false c.if-bytes-at-lt32.true (start c).args.table (laid_first c) c.of.result (c.of.ensures ∙ ap (λ (x : Sets). table_of x c.loop-i.totals c.loop-i.blocks) c.sets_of-left.ensures)
 
 pub overflow_add-at : goal.overflow_add-at
 overflow_add-at c = let y = c.if-bytes-at-lt32.false in omega (arith, bytes_fit (start c))
 
 pub to-reply-requires : goal.to-reply-requires
-to-reply-requires c = let b = c in let l = b in let y = b.if-bytes-at-lt32.false in omega (arith, l.loop-i.invariant.going.fewer, bytes_fit (start l))
+to-reply-requires c = let y = c.if-bytes-at-lt32.false in omega (arith, c.loop-i.invariant.going.fewer, bytes_fit (start c))
 
 pub loop-i-smaller-then-not-is_done : goal.loop-i-smaller-then-not-is_done
-loop-i-smaller-then-not-is_done c = let w = judged_few _ _ (says _ c.judge-judged.ensures) in let b = c in let z = b.if-i-spots.false in let y = b.if-bytes-at-lt32.false in omega arith
+loop-i-smaller-then-not-is_done c = let w = judged_few _ _ (says _ c.judge-judged.ensures) in let z = c.if-i-spots.false in let y = c.if-bytes-at-lt32.false in omega arith
 
 pub loop-i-preserved-then-not-is_done : goal.loop-i-preserved-then-not-is_done
 loop-i-preserved-then-not-is_done c =
-    let b = c in
-    let l = b in
-    kept_refused l.loop-i.invariant b.if-i-spots.false b.if-bytes-at-lt32.false (bytes_of l) _ (block_part (start l).args.bytes.now l.loop-i.at) c.judge-judged.result (says _ c.judge-judged.ensures) _ c.to-reply.ensures _ c.next_block-blocks.ensures
-    (sym c.is_done.ensures ∙ not-true _ c.if-not-is_done.true) _ c.none-closed.ensures
+    kept_refused c.loop-i.invariant c.if-i-spots.false c.if-bytes-at-lt32.false (bytes_of c) _ (block_part (start c).args.bytes.now c.loop-i.at) c.judge-judged.result (says _ c.judge-judged.ensures) _ c.to-reply.ensures _ c.next_block-blocks.ensures
+    (sym c.is_done.ensures ∙ c.if-not-is_done.true) _ c.none-closed.ensures
 
 pub loop-i-smaller : goal.loop-i-smaller
-loop-i-smaller c = let w = judged_few _ _ (says _ c.judge-judged.ensures) in let b = c in let z = b.if-i-spots.false in let y = b.if-bytes-at-lt32.false in omega arith
+loop-i-smaller c = let w = judged_few _ _ (says _ c.judge-judged.ensures) in let z = c.if-i-spots.false in let y = c.if-bytes-at-lt32.false in omega arith
 
 pub loop-i-preserved : goal.loop-i-preserved
 loop-i-preserved c =
-    let b = c in
-    let l = b in
-    kept_taken l.loop-i.invariant b.if-i-spots.false b.if-bytes-at-lt32.false (bytes_of l) _ (block_part (start l).args.bytes.now l.loop-i.at) c.judge-judged.result (says _ c.judge-judged.ensures) _ c.to-reply.ensures _ c.next_block-blocks.ensures
-    (sym c.is_done.ensures ∙ not-false _ c.if-not-is_done.false)
+    kept_taken c.loop-i.invariant c.if-i-spots.false c.if-bytes-at-lt32.false (bytes_of c) _ (block_part (start c).args.bytes.now c.loop-i.at) c.judge-judged.result (says _ c.judge-judged.ensures) _ c.to-reply.ensures _ c.next_block-blocks.ensures
+    (sym c.is_done.ensures ∙ c.if-not-is_done.false)

@@ -11,6 +11,4 @@ returns-then-n-eq0 c = puts_as (rw (eq-eqb _ _ c.if-n-eq0.true)) (puts_none _ _ 
 pub returns : goal.returns
 unfolding count_line
 returns c =
-    let number = c in
-    let head = number in
-    puts_as (rw (ne_eqb _ _ head.if-n-eq0.false)) (puts_then (puts_then head.put_bytes-p.ensures number.put_decimal-q.ensures) c.put.ensures)
+    puts_as (rw (ne_eqb _ _ c.if-n-eq0.false)) (puts_then (puts_then c.put_bytes-p.ensures c.put_decimal-q.ensures) c.put.ensures)

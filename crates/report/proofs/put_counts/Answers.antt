@@ -6,16 +6,10 @@ use Rattle.report.proofs.put_counts.Goals as goal
 pub returns : goal.returns
 unfolding counts_text
 returns c =
-    let full = c in
-    let end = full in
-    let refused = end in
-    let comma = refused in
-    let blocks = comma in
-    let head = blocks in
     puts_then
     (puts_then
     (puts_then
-    (puts_then (puts_then head.put_bytes-a.ensures blocks.put_decimal-b.ensures) (puts_then comma.put_bytes-c.ensures refused.put_decimal-d.ensures))
-    end.put-e.ensures)
-    full.put_count-f.ensures)
+    (puts_then (puts_then c.put_bytes-a.ensures c.put_decimal-b.ensures) (puts_then c.put_bytes-c.ensures c.put_decimal-d.ensures))
+    c.put-e.ensures)
+    c.put_count-f.ensures)
     c.put_count.ensures

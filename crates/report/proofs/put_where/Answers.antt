@@ -11,5 +11,4 @@ returns-then-n-eq2 c = puts_as (rw (eq-eqb _ _ c.if-n-eq2.true)) (puts_none _ _ 
 pub returns : goal.returns
 unfolding place_text
 returns c =
-    let head = c in
-    puts_as (rw (ne_eqb _ _ head.if-n-eq2.false)) (puts_then head.put_bytes-p.ensures c.put_decimal.ensures)
+    puts_as (rw (ne_eqb _ _ c.if-n-eq2.false)) (puts_then c.put_bytes-p.ensures c.put_decimal.ensures)

@@ -28,7 +28,6 @@ returns-then-n-eq6 c = puts_as (ap words_of (sym c.if-n-eq6.true)) c.put_bytes-t
 pub returns : goal.returns
 unfolding words_of
 returns c =
-    let third = c in
     puts_as
-    (rw (ne_eqb _ _ third.if-n-eq2.false, ne_eqb _ _ third.if-n-eq3.false, ne_eqb _ _ third.if-n-eq4.false, ne_eqb _ _ c.if-n-eq5.false, ne_eqb _ _ c.if-n-eq6.false))
+    (rw (ne_eqb _ _ c.if-n-eq2.false, ne_eqb _ _ c.if-n-eq3.false, ne_eqb _ _ c.if-n-eq4.false, ne_eqb _ _ c.if-n-eq5.false, ne_eqb _ _ c.if-n-eq6.false))
     (puts_none _ _ _ c.least.ensures)

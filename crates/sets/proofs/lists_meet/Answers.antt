@@ -12,10 +12,10 @@ loop-i-init c = (omega arith, λ k h. absurd (omega arith))
 
 pub returns-then-not-meets : goal.returns-then-not-meets
 unfolding EachHolds
-returns-then-not-meets c = refuted _ (λ h. fails refl (not-true _ c.if-not-meets.true) (c.meets.ensures.complete (h _ c.loop-i-test.true)))
+returns-then-not-meets c = refuted _ (λ h. fails refl c.if-not-meets.true (c.meets.ensures.complete (h _ c.loop-i-test.true)))
 
 pub loop-i-preserved : goal.loop-i-preserved
-loop-i-preserved c = (omega arith, below_more _ _ c.loop-i.invariant.1 (c.meets.ensures.sound (not-false _ c.if-not-meets.false)))
+loop-i-preserved c = (omega arith, below_more _ _ c.loop-i.invariant.1 (c.meets.ensures.sound c.if-not-meets.false))
 
 pub returns : goal.returns
 unfolding EachHolds

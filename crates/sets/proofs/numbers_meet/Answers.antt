@@ -1,10 +1,10 @@
 use Prim.Native.Nat.{◌-◌}
 use native.Mathlib.Omega.{arith}
-use mathlib.Core.Logic.{⊎_elim}
 use borrow.Author.Count.{below_more}
 use Rattle.lists.proofs.StoredLaws.{refuted, passed}
 use Rattle.sets.specs.Stored.{NumbersHold}
 use Rattle.sets.proofs.numbers_meet.Goals as goal
+use Rattle.sets.proofs.numbers_meet.Goals.{else-list-eq0, then-list-eq0+else-numbers-i-ne0}
 
 pub loop-i-init : goal.loop-i-init
 loop-i-init c = λ k h. absurd (omega arith)
@@ -16,7 +16,10 @@ returns-then-numbers-i-ne0 c = refuted _ (λ h. c.if-numbers-i-ne0.true (h _ c.l
 pub loop-i-preserved : goal.loop-i-preserved
 loop-i-preserved c =
     below_more _ _ c.loop-i.invariant
-    (λ z. ⊎_elim (λ w. w.2.left) (λ w. absurd (w.left z)) c.if-list-eq0.branch)
+    (λ z. elim c.if-list-eq0.branch [
+        then-list-eq0+else-numbers-i-ne0 w ↦ w.if-numbers-i-ne0.false
+      | else-list-eq0 w ↦ absurd (w.if-list-eq0.false z)
+    ])
 
 pub returns : goal.returns
 unfolding NumbersHold

@@ -9,18 +9,18 @@ use borrow.Author.Rules.{rules}
 use Rattle.sheet.proofs.pairs_size.Goals as goal
 
 -- the arrays are full
-long : (c : goal.Start) → (length c.args.t1.kinds ≡ most_ids) × (length c.args.t1.numbers ≡ most_ids)
+long : (c : goal.Start) → (length c.args.list.kinds ≡ most_ids) × (length c.args.list.numbers ≡ most_ids)
 long c = (search rules, search rules)
 
 -- one identifier more is counted
 turn : (c : goal.After-number_size-in-loop-i)
-    → (c.loop-i.size + (c.number_size.result + c.number_size-in-loop-i.result) + length (sheet_pairs (drop (c.loop-i.i + 1) (pairs_of c.args.t1)))
-    ≡ length (sheet_pairs (pairs_of c.args.t1)))
-    × (length (sheet_pairs (pairs_of c.args.t1)) ≤ 1280)
+    → (c.loop-i.size + (c.number_size.result + c.number_size-in-loop-i.result) + length (sheet_pairs (drop (c.loop-i.i + 1) (pairs_of c.args.list)))
+    ≡ length (sheet_pairs (pairs_of c.args.list)))
+    × (length (sheet_pairs (pairs_of c.args.list)) ≤ 1280)
 turn c =
     let l = long c in
-    let h = size_here c.args.t1 l.0 l.1 c.requires c.loop-i.i c.loop-i-test.true in
-    (omega (arith, c.loop-i.invariant, c.number_size.ensures, c.number_size-in-loop-i.ensures), pairs_size c.args.t1 l.0 l.1 c.requires)
+    let h = size_here c.args.list l.0 l.1 c.requires c.loop-i.i c.loop-i-test.true in
+    (omega (arith, c.loop-i.invariant, c.number_size.ensures, c.number_size-in-loop-i.ensures), pairs_size c.args.list l.0 l.1 c.requires)
 
 pub overflow_add-size : goal.overflow_add-size
 overflow_add-size c = omega (arith, turn c)
@@ -34,4 +34,4 @@ loop-i-preserved c = (turn c).0
 pub returns : goal.returns
 returns c =
     let l = long c in
-    omega (arith, c.loop-i.invariant, ap length (pairs_end c.args.t1 l.0 l.1 c.requires c.loop-i.i c.loop-i-test.false))
+    omega (arith, c.loop-i.invariant, ap length (pairs_end c.args.list l.0 l.1 c.requires c.loop-i.i c.loop-i-test.false))

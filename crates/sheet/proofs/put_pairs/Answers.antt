@@ -8,7 +8,7 @@ use borrow.Author.Rules.{rules}
 use Rattle.sheet.proofs.put_pairs.Goals as goal
 
 -- the arrays are full
-long : (c : goal.Start) → (length c.args.t3.kinds ≡ most_ids) × (length c.args.t3.numbers ≡ most_ids)
+long : (c : goal.Start) → (length c.args.list.kinds ≡ most_ids) × (length c.args.list.numbers ≡ most_ids)
 long c = (search rules, search rules)
 
 pub loop-i-init : goal.loop-i-init
@@ -18,7 +18,7 @@ pub loop-i-preserved : goal.loop-i-preserved
 loop-i-preserved c =
     let l = long c in
     going_on refl
-    (going_on (pairs_here c.args.t3 l.0 l.1 c.requires _ c.loop-i-test.true) c.loop-i.invariant c.put_number-p.ensures)
+    (going_on (pairs_here c.args.list l.0 l.1 c.requires _ c.loop-i-test.true) c.loop-i.invariant c.put_number-p.ensures)
     c.put_number-p-in-loop-i.ensures
 
 pub shape_of-out : goal.shape_of-out
@@ -27,4 +27,4 @@ shape_of-out c = c.loop-i.invariant.long
 pub returns : goal.returns
 returns c =
     let l = long c in
-    going_end (pairs_end c.args.t3 l.0 l.1 c.requires _ c.loop-i-test.false) c.loop-i.invariant
+    going_end (pairs_end c.args.list l.0 l.1 c.requires _ c.loop-i-test.false) c.loop-i.invariant

@@ -11,12 +11,12 @@ returns-then-key-last c = if_failed (key_fits _) _ _ _ _ (sym c.in-At.is ∙ c.r
 pub returns-then-not-is_key : goal.returns-then-not-is_key
 returns-then-not-is_key c =
     if_failed (key_fits _) _ _ _ _ (sym c.in-At.is ∙ c.read_number.ensures)
-    (key_after _ _ c.if-key-last.false ∙ sym c.is_key.ensures ∙ not-true _ c.if-not-is_key.true)
+    (key_after _ _ c.if-key-last.false ∙ sym c.is_key.ensures ∙ c.if-not-is_key.true)
 
 pub returns-else-not-is_key : goal.returns-else-not-is_key
 returns-else-not-is_key c =
     if_passed (key_fits _) _ _ _ _ (sym c.in-At.is ∙ c.read_number.ensures)
-    (key_after _ _ c.if-key-last.false ∙ sym c.is_key.ensures ∙ not-false _ c.if-not-is_key.false)
+    (key_after _ _ c.if-key-last.false ∙ sym c.is_key.ensures ∙ c.if-not-is_key.false)
 
 pub returns-in-Wrong : goal.returns-in-Wrong
 returns-in-Wrong c = if_none (key_fits _) _ _ (sym c.in-Wrong.is ∙ c.read_number.ensures)

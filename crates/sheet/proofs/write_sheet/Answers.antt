@@ -19,11 +19,11 @@ use Rattle.sheet.proofs.write_sheet.Goals as goal
 
 -- the sets are stored where the test passes
 is_stored : (c : goal.Else-not-meets) → SetsStored c.args.table.sets
-is_stored c = sets_stored _ (c.meets.ensures.sound (not-false _ c.if-not-meets.false))
+is_stored c = sets_stored _ (c.meets.ensures.sound c.if-not-meets.false)
 
 pub returns-then-not-meets : goal.returns-then-not-meets
 unfolding written_as
-returns-then-not-meets c = given_wrong c.meets.ensures (not-true _ c.if-not-meets.true) refl
+returns-then-not-meets c = given_wrong c.meets.ensures c.if-not-meets.true refl
 
 pub overflow_cast-count : goal.overflow_cast-count
 overflow_cast-count c = omega (arith, c.shown_count-count.ensures, sets_few c.args.table.sets)
@@ -48,16 +48,14 @@ sized s d m e = size_sheet _ d m (sets_are _ d m e) s.shown_count-count.ensures 
 
 pub returns-then-out-size : goal.returns-then-out-size
 returns-then-out-size c =
-    let s = c in
-    given_right s.meets.ensures (not-false _ s.if-not-meets.false) (λ d m e.
-    written_short _ _ (omega (arith, c.if-out-size.true, sized s d m e)))
+    given_right c.meets.ensures c.if-not-meets.false (λ d m e.
+    written_short _ _ (omega (arith, c.if-out-size.true, sized c d m e)))
 
 pub put_sets-end-requires : goal.put_sets-end-requires
 put_sets-end-requires c = is_stored c
 
 pub returns : goal.returns
 returns c =
-    let s = c in
-    given_right s.meets.ensures (not-false _ s.if-not-meets.false) (λ d m e.
-    written_done (omega (arith, c.if-out-size.false, sized s d m e))
-    (puts_sheet _ d m (sets_are _ d m e) s.shown_count-count.ensures c.put_number-p.ensures c.put_sets-end.ensures))
+    given_right c.meets.ensures c.if-not-meets.false (λ d m e.
+    written_done (omega (arith, c.if-out-size.false, sized c d m e))
+    (puts_sheet _ d m (sets_are _ d m e) c.shown_count-count.ensures c.put_number-p.ensures c.put_sets-end.ensures))

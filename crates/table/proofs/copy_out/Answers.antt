@@ -6,34 +6,21 @@ use borrow.Author.Tests.{not-true, not-false}
 use Rattle.rules.specs.Collecting.{most_keys}
 use Rattle.sets.proofs.PlaceLaws.{stands, stands_not}
 use Rattle.table.proofs.GivenLaws.{sets_are, given_wrong, given_right, stands_short, stands_shown, copies_missing, copies_held, not_copied_as}
-use borrow.Author.Rules.{rules}
 use Rattle.table.proofs.copy_out.Goals as goal
 
--- where the key is looked for: the arguments, the table found to meet the rules, the place
-abbrev tested : (c : goal.After-stands_at) → goal.Else-not-meets
-tested c = c
-
-abbrev given : (c : goal.After-stands_at) → goal.Start
-given c = (tested c).before.before.before.before
-
-abbrev placed : (c : goal.After-stands_at) → goal.After-place_of-at
-placed c = c
-
 -- a held key has one of the table's places
-short : (c : goal.Else-not-stands_at) → (placed c).place_of.result < most_keys
+short : (c : goal.Else-not-stands_at) → c.place_of-at.result < most_keys
 short c =
-    let s = c in
-    stands_short (given s).args.table (tested s).before.meets.ensures (not-false _ (tested s).if1.false) _ _ (sym s.stands_at.ensures ∙ not-false _ c.if-not-stands_at.false)
+    stands_short c.args.table c.meets.ensures c.if-not-meets.false _ _ (sym c.stands_at.ensures ∙ c.if-not-stands_at.false)
 
 pub returns-then-not-meets : goal.returns-then-not-meets
-returns-then-not-meets c = given_wrong c.meets.ensures (not-true _ c.if-not-meets.true) (not_copied_as _ _ _ _ c.not_copied.ensures)
+returns-then-not-meets c = given_wrong c.meets.ensures c.if-not-meets.true (not_copied_as _ _ _ _ c.not_copied.ensures)
 
 pub returns-then-not-stands_at : goal.returns-then-not-stands_at
 returns-then-not-stands_at c =
-    let s = c in
-    given_right (tested s).before.meets.ensures (not-false _ (tested s).if1.false) (λ d m e.
+    given_right c.meets.ensures c.if-not-meets.false (λ d m e.
     not_copied_as _ _ _ _ c.not_copied-then-not-stands_at.ensures
-    ∙ copies_missing _ d m e _ (stands_not _ d.sets-1 (sets_are _ d m e) _ _ (placed s).place_of.ensures (sym s.stands_at.ensures ∙ not-true _ c.if-not-stands_at.true)) _ _)
+    ∙ copies_missing _ d m e _ (stands_not _ d.sets (sets_are _ d m e) _ _ c.place_of-at.ensures (sym c.stands_at.ensures ∙ c.if-not-stands_at.true)) _ _)
 
 pub offset_bounds-sets-at : goal.offset_bounds-sets-at
 offset_bounds-sets-at c = let w = short c in omega arith
@@ -52,15 +39,11 @@ bounds-sets-at-3 c = short c
 
 pub copy_set-requires : goal.copy_set-requires
 copy_set-requires c =
-    let h = c in
-    let s = h in
-    let r = stands_shown (given s).args.table (tested s).before.meets.ensures (not-false _ (tested s).if1.false) _ _ (sym s.stands_at.ensures ∙ not-false _ h.if-not-stands_at.false) in
+    let r = stands_shown c.args.table c.meets.ensures c.if-not-meets.false _ _ (sym c.stands_at.ensures ∙ c.if-not-stands_at.false) in
     (omega (arith, r.short, r.numbers_long), omega (arith, r.short, r.kinds_long))
 
 pub returns : goal.returns
 returns c =
-    let h = c in
-    let s = h in
-    given_right (tested s).before.meets.ensures (not-false _ (tested s).if1.false) (λ d m e.
+    given_right c.meets.ensures c.if-not-meets.false (λ d m e.
     c.copy_set.ensures
-    ∙ copies_held _ d m e _ _ (placed s).place_of.ensures (stands _ d.sets-1 (sets_are _ d m e) _ _ (placed s).place_of.ensures (sym s.stands_at.ensures ∙ not-false _ h.if-not-stands_at.false)) _ _)
+    ∙ copies_held _ d m e _ _ c.place_of-at.ensures (stands _ d.sets (sets_are _ d m e) _ _ c.place_of-at.ensures (sym c.stands_at.ensures ∙ c.if-not-stands_at.false)) _ _)

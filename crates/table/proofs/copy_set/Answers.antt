@@ -22,4 +22,4 @@ pub returns : goal.returns
 unfolding copy_stored copied_as
 returns c =
     rw (ne_eqb _ _ c.if-len-eq0.false, le-ltb _ _ c.if-numbers-len.false, le-ltb _ _ c.if-kinds-len.false)
-    (λ i. record { outcome = Done; key = c.args.key; on = c.args.on; named = c.args.t1.named; confirmed = c.args.confirmed; count = c.args.t1.len; numbers = c.copy_u32.ensures i; kinds = c.copy_u8.ensures i })
+    (λ i. record { outcome = Done; key = c.args.key; on = c.args.on; named = c.args.set.named; confirmed = c.args.confirmed; count = c.args.set.len; numbers = c.copy_u32.ensures i; kinds = c.copy_u8.ensures i })

@@ -17,12 +17,12 @@ pub returns : goal.returns
 unfolding number_text block_text
 returns c =
     let a = c.args in
-    let ns : length a.t5.numbers ≡ most_ids = search rules in
-    let ks : length a.t5.kinds ≡ most_ids = search rules in
-    let n : c.least-n.result ≡ length (pairs_in a.t5.kinds a.t5.numbers a.t5.len) =
-    omega (arith, c.least-n.ensures, length_pairs_in a.t5.kinds a.t5.numbers a.t5.len) in
+    let ns : length a.list.numbers ≡ most_ids = search rules in
+    let ks : length a.list.kinds ≡ most_ids = search rules in
+    let n : c.least-n.result ≡ length (pairs_in a.list.kinds a.list.numbers a.list.len) =
+    omega (arith, c.least-n.ensures, length_pairs_in a.list.kinds a.list.numbers a.list.len) in
     let size =
-    length_line (number_text a.numbered a.block) a.key a.on a.t5
+    length_line (number_text a.numbered a.block) a.key a.on a.list
     c.state_size.ensures.0
     (c.numbered_size.ensures.0 ∙ length_if a.numbered (block_text a.block) (omega arith))
     (c.decimal_size.ensures.0 ∙ ap (λ (k : ℕ). length (decimal k)) n)

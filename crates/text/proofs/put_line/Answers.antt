@@ -20,10 +20,10 @@ pub returns : goal.returns
 unfolding line_with shown_as set_in
 returns c =
     let a = c.args in
-    let ns : length a.t7.numbers ≡ most_ids = search rules in
-    let ks : length a.t7.kinds ≡ most_ids = search rules in
-    let n : c.least.result ≡ length (pairs_in a.t7.kinds a.t7.numbers a.t7.len) =
-    omega (arith, c.least.ensures, length_pairs_in a.t7.kinds a.t7.numbers a.t7.len) in
+    let ns : length a.list.numbers ≡ most_ids = search rules in
+    let ks : length a.list.kinds ≡ most_ids = search rules in
+    let n : c.least.result ≡ length (pairs_in a.list.kinds a.list.numbers a.list.len) =
+    omega (arith, c.least.ensures, length_pairs_in a.list.kinds a.list.numbers a.list.len) in
     let head = puts_as (ap (λ (k : ℕ). hex_text 4 a.key ++ 32 ∷ state_text a.on ++ (number_text a.numbered a.block ++ ids_text k)) n) c.put_head-p.ensures in
     puts_then
     (puts_then (puts_then (puts_then head c.put_pairs-q.ensures) c.put_mark-r.ensures) c.put_mark-m.ensures)

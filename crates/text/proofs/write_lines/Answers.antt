@@ -20,10 +20,10 @@ use Rattle.text.proofs.write_lines.Goals as goal
 
 pub returns-then-not-meets : goal.returns-then-not-meets
 unfolding written_as
-returns-then-not-meets c = given_wrong c.meets.ensures (not-true _ c.if-not-meets.true) refl
+returns-then-not-meets c = given_wrong c.meets.ensures c.if-not-meets.true refl
 
 pub lines_size-requires : goal.lines_size-requires
-lines_size-requires c = tested_short c.args.table c.meets.ensures (not-false _ c.if-not-meets.false)
+lines_size-requires c = tested_short c.args.table c.meets.ensures c.if-not-meets.false
 
 -- of a stored table the parts make the listing, and the sizes that are added up its size
 of_stored : (c : goal.After-tail_size) {right : Content → Type 0} {otherwise : Type 0}
@@ -35,7 +35,7 @@ of_stored : (c : goal.After-tail_size) {right : Content → Type 0} {otherwise :
     → Given c.args.table right otherwise
 of_stored c h =
     let a = c.args in
-    given_right c.meets.ensures (not-false _ c.if-not-meets.false) (λ d m e.
+    given_right c.meets.ensures c.if-not-meets.false (λ d m e.
     h d
     (listed_of a.numbered a.table d m e _ _ c.shown_count-count.ensures)
     (listed_size a.numbered a.table d m e _ _ c.shown_count-count.ensures c.first_size.ensures.0 c.lines_size.ensures.0 c.tail_size.ensures.0))
@@ -44,7 +44,7 @@ pub returns-then-out-size : goal.returns-then-out-size
 returns-then-out-size c = of_stored c (λ d text size. written_short _ _ (omega (arith, c.if-out-size.true, size)))
 
 pub put_lines-q-requires : goal.put_lines-q-requires
-put_lines-q-requires c = tested_short c.args.table c.meets.ensures (not-false _ c.if-not-meets.false)
+put_lines-q-requires c = tested_short c.args.table c.meets.ensures c.if-not-meets.false
 
 pub returns : goal.returns
 returns c =

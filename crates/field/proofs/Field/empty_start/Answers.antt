@@ -22,5 +22,4 @@ by_count f listed start = simp (eq-eqb _ _ listed, ne_eqb _ _ start)
 
 pub returns : goal.returns
 returns c =
-    let b = c in
-    by_count b.args.self b.if-self-ne1.false c.if-self-eq1.false
+    by_count c.args.self c.if-self-ne1.false c.if-self-eq1.false

@@ -41,5 +41,4 @@ number_at-requires c = omega (arith, offset c)
 pub returns : goal.returns
 unfolding identifier_at
 returns c =
-    let b = c in
-    simp (lt-leb _ _ b.if-i-ge16.false, lt-leb _ _ b.if-body-from.false) (cc)
+    simp (lt-leb _ _ c.if-i-ge16.false, lt-leb _ _ c.if-body-from.false) (cc)

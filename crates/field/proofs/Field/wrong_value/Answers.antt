@@ -20,15 +20,12 @@ returns-then-self-eq1 c =
 pub returns-then-self-eq1-2 : goal.returns-then-self-eq1-2
 unfolding wrong_in
 returns-then-self-eq1-2 c =
-    let b = c in
-    simp (ne_eqb _ _ b.if-self-eq0.false, ne_eqb _ _ b.if-self-eq1.false, eq-eqb _ _ c.if-self-eq1-2.true)
+    simp (ne_eqb _ _ c.if-self-eq0.false, ne_eqb _ _ c.if-self-eq1.false, eq-eqb _ _ c.if-self-eq1-2.true)
 
 pub returns-then-self-eq2 : goal.returns-then-self-eq2
 unfolding wrong_in
 returns-then-self-eq2 c =
-    let d = c in
-    let b = d in
-    simp (ne_eqb _ _ b.if-self-eq0.false, ne_eqb _ _ b.if-self-eq1.false, ne_eqb _ _ d.if-self-eq1-2.false, eq-eqb _ _ c.if-self-eq2.true)
+    simp (ne_eqb _ _ c.if-self-eq0.false, ne_eqb _ _ c.if-self-eq1.false, ne_eqb _ _ c.if-self-eq1-2.false, eq-eqb _ _ c.if-self-eq2.true)
 
 -- where no test before it holds and P/D is 1, the qualifier decides
 by_qualifier :
@@ -39,16 +36,9 @@ by_qualifier f a b d e data' = simp (ne_eqb _ _ a, ne_eqb _ _ b, ne_eqb _ _ d, n
 
 pub returns-then-self-eq1-3 : goal.returns-then-self-eq1-3
 returns-then-self-eq1-3 c =
-    let e = c in
-    let d = e in
-    let b = d in
-    let a = b in
-    by_qualifier a.args.self a.if-self-eq0.false b.if-self-eq1.false d.if-self-eq1-2.false e.if-self-eq2.false c.if-self-eq1-3.true
+    by_qualifier c.args.self c.if-self-eq0.false c.if-self-eq1.false c.if-self-eq1-2.false c.if-self-eq2.false c.if-self-eq1-3.true
 
 pub returns : goal.returns
 unfolding wrong_in
 returns c =
-    let e = c in
-    let d = e in
-    let b = d in
-    simp (ne_eqb _ _ b.if-self-eq0.false, ne_eqb _ _ b.if-self-eq1.false, ne_eqb _ _ d.if-self-eq1-2.false, ne_eqb _ _ e.if-self-eq2.false, ne_eqb _ _ c.if-self-eq1-3.false)
+    simp (ne_eqb _ _ c.if-self-eq0.false, ne_eqb _ _ c.if-self-eq1.false, ne_eqb _ _ c.if-self-eq1-2.false, ne_eqb _ _ c.if-self-eq2.false, ne_eqb _ _ c.if-self-eq1-3.false)

@@ -15,25 +15,19 @@ returns-then-at-ge30 c = simp (eq-eqb _ _ c.if-fib-ne32.false, le-leb _ _ c.if-a
 pub returns-then-byte : goal.returns-then-byte
 unfolding step_at
 returns-then-byte c =
-    let p = c in
-    simp (eq-eqb _ _ p.if-fib-ne32.false, lt-leb _ _ p.if-at-ge30.false, eq-eqb _ _ c.if-byte.true)
+    simp (eq-eqb _ _ c.if-fib-ne32.false, lt-leb _ _ c.if-at-ge30.false, eq-eqb _ _ c.if-byte.true)
 
 pub returns-then-length-eq0 : goal.returns-then-length-eq0
 unfolding step_at
 returns-then-length-eq0 c =
-    let p = c in
-    simp (eq-eqb _ _ p.if-fib-ne32.false, lt-leb _ _ p.if-at-ge30.false, ne_eqb _ _ c.if-byte.false, eq-eqb _ _ c.if-length-eq0.true)
+    simp (eq-eqb _ _ c.if-fib-ne32.false, lt-leb _ _ c.if-at-ge30.false, ne_eqb _ _ c.if-byte.false, eq-eqb _ _ c.if-length-eq0.true)
 
 pub returns-then-end-gt30 : goal.returns-then-end-gt30
 unfolding step_at
 returns-then-end-gt30 c =
-    let q = c in
-    let p = q in
-    simp (eq-eqb _ _ p.if-fib-ne32.false, lt-leb _ _ p.if-at-ge30.false, ne_eqb _ _ q.if-byte.false, ne_eqb _ _ c.if-length-eq0.false, lt-ltb _ _ c.if-end-gt30.true)
+    simp (eq-eqb _ _ c.if-fib-ne32.false, lt-leb _ _ c.if-at-ge30.false, ne_eqb _ _ c.if-byte.false, ne_eqb _ _ c.if-length-eq0.false, lt-ltb _ _ c.if-end-gt30.true)
 
 pub returns : goal.returns
 unfolding step_at
 returns c =
-    let q = c in
-    let p = q in
-    simp (eq-eqb _ _ p.if-fib-ne32.false, lt-leb _ _ p.if-at-ge30.false, ne_eqb _ _ q.if-byte.false, ne_eqb _ _ c.if-length-eq0.false, le-ltb _ _ c.if-end-gt30.false)
+    simp (eq-eqb _ _ c.if-fib-ne32.false, lt-leb _ _ c.if-at-ge30.false, ne_eqb _ _ c.if-byte.false, ne_eqb _ _ c.if-length-eq0.false, le-ltb _ _ c.if-end-gt30.false)

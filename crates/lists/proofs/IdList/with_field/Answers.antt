@@ -2,7 +2,6 @@ use Prim.Native.Nat.{◌-◌}
 use native.Mathlib.Omega.{arith}
 use mathlib.Core.Path.{refl, sym, ◌∙◌}
 use mathlib.Core.Bool.{false}
-use mathlib.Core.Logic.{⊎_elim}
 use mathlib.Core.Option.{none, some}
 use borrow.Author.Tests.{not-true, not-false}
 use Rattle.rules.specs.Field.{pair}
@@ -10,6 +9,7 @@ use Rattle.lists.specs.Grown.{put, grown_as, renamed}
 use Rattle.lists.proofs.GrownLaws.{grown_there, grown_put, grown_full, grown_end, grown_first, grown_from, with_field_is}
 use borrow.Author.Rules.{rules}
 use Rattle.lists.proofs.IdList.with_field.Goals as goal
+use Rattle.lists.proofs.IdList.with_field.Goals.{else-not-stands_in, then-not-stands_in+else-len-ge-MOST}
 
 pub loop-i-init : goal.loop-i-init
 loop-i-init c =
@@ -21,7 +21,7 @@ returns-then-len-ge-MOST c =
     (λ i. record { fits = false; list = c.empty.ensures i })
     ∙ with_field_is _ _ _ _ _ none refl c.names_with.ensures
     (sym c.loop-i.invariant.1.1.1
-    ∙ grown_full _ _ _ _ _ _ _ _ c.identifier-id.ensures c.kind-kind.ensures c.number-number.ensures _ c.stands_in.ensures (not-true _ c.if-not-stands_in.true) c.loop-i-test.true c.if-len-ge-MOST.true)
+    ∙ grown_full _ _ _ _ _ _ _ _ c.identifier-id.ensures c.kind-kind.ensures c.number-number.ensures _ c.stands_in.ensures c.if-not-stands_in.true c.loop-i-test.true c.if-len-ge-MOST.true)
 
 pub overflow_add-i : goal.overflow_add-i
 overflow_add-i c = omega (arith, c.loop-i.invariant.1.0)
@@ -34,10 +34,10 @@ loop-i-preserved c = (
     c.loop-i.invariant.1.0,
     (
       c.loop-i.invariant.1.1.0,
-      ⊎_elim
-          (λ w. grown_from _ _ _ _ w.2 (grown_put _ _ _ _ _ _ _ _ c.identifier-id.ensures c.kind-kind.ensures c.number-number.ensures _ c.stands_in.ensures (not-true _ w.0.taken) c.loop-i-test.true w.1.left ∙ c.loop-i.invariant.1.1.1))
-          (λ w. grown_from _ _ _ _ w.1 (grown_there _ _ _ _ _ _ _ _ c.identifier-id.ensures c.kind-kind.ensures c.number-number.ensures _ c.stands_in.ensures (not-false _ w.0.left) c.loop-i-test.true ∙ c.loop-i.invariant.1.1.1))
-          c.if-not-stands_in.branch,
+      elim c.if-not-stands_in.branch [
+        | then-not-stands_in+else-len-ge-MOST w ↦ grown_from _ _ _ _ w.next-is (grown_put _ _ _ _ _ _ _ _ c.identifier-id.ensures c.kind-kind.ensures c.number-number.ensures _ c.stands_in.ensures (w.if-not-stands_in.true) c.loop-i-test.true w.if-len-ge-MOST.false ∙ c.loop-i.invariant.1.1.1)
+        | else-not-stands_in w ↦ grown_from _ _ _ _ w.next-is (grown_there _ _ _ _ _ _ _ _ c.identifier-id.ensures c.kind-kind.ensures c.number-number.ensures _ c.stands_in.ensures (w.if-not-stands_in.false) c.loop-i-test.true ∙ c.loop-i.invariant.1.1.1)
+      ],
     ),
   ),
 )

@@ -1,18 +1,18 @@
 use Prim.Native.Nat.{◌-◌}
 use native.Mathlib.Omega.{arith}
 use mathlib.Core.Path.{refl, sym, ◌∙◌}
-use mathlib.Core.Logic.{⊎_elim}
 use Rattle.rules.proofs.Basics.{length_of_map}
 use Rattle.reading.specs.Gathered.{Whole}
 use Rattle.reading.proofs.GatheredLaws.{row_size_law, part_long, length_gathered, gathered_at, gathering_changed, gathering_same, gathering_end}
 use borrow.Author.Rules.{rules}
 use Rattle.reading.proofs.rows.gather.Goals as goal
+use Rattle.reading.proofs.rows.gather.Goals.{else-rows-p, then-rows-p}
 
 -- the start, and that the rows are whole
 abbrev start : (c : goal.At-loop-p) → goal.Start
 start c = c
 
-whole : (c : goal.Start) → Whole c.args.numbers.now c.args.kinds.now c.args.t4
+whole : (c : goal.Start) → Whole c.args.numbers.now c.args.kinds.now c.args.rows
 whole c = record { numbers = c.requires.0; kinds = c.requires.1; lens = search rules; names = search rules; changed = search rules }
 
 pub loop-p-init : goal.loop-p-init
@@ -20,23 +20,21 @@ loop-p-init c = record { within = omega arith; long = search (length_of_map, rul
 
 pub list_of-requires : goal.list_of-requires
 list_of-requires c =
-    let turn = c in
-    let p = turn.loop-p.p in
-    let s = start turn in (
-      part_long p _ (row_size_law p) turn.loop-p-test.true s.args.numbers.now s.requires.0,
-      part_long p _ (row_size_law p) turn.loop-p-test.true s.args.kinds.now s.requires.1,
+    let p = c.loop-p.p in
+    let s = start c in (
+      part_long p _ (row_size_law p) c.loop-p-test.true s.args.numbers.now s.requires.0,
+      part_long p _ (row_size_law p) c.loop-p-test.true s.args.kinds.now s.requires.1,
     )
 
 pub loop-p-preserved : goal.loop-p-preserved
 loop-p-preserved c =
-    let turn = c in
-    let l = turn.loop-p in
-    let s = start turn in
+    let l = c.loop-p in
+    let s = start c in
     let w = whole s in
-    ⊎_elim
-    (λ x. gathering_changed l.invariant (length_gathered _ _ _ w) turn.loop-p-test.true _ (x.5.ensures ∙ sym (gathered_at _ _ _ w l.p _ (row_size_law l.p) turn.loop-p-test.true)) _ x.6)
-    (λ x. gathering_same l.invariant (length_gathered _ _ _ w) turn.loop-p-test.true (s.requires.2 l.p turn.loop-p-test.true x.0.left) _ x.1)
-    c.if-rows-p.branch
+    elim c.if-rows-p.branch [
+        then-rows-p x ↦ gathering_changed l.invariant (length_gathered _ _ _ w) c.loop-p-test.true _ (x.5.ensures ∙ sym (gathered_at _ _ _ w l.p _ (row_size_law l.p) c.loop-p-test.true)) _ x.6
+      | else-rows-p x ↦ gathering_same l.invariant (length_gathered _ _ _ w) c.loop-p-test.true (s.requires.2 l.p c.loop-p-test.true x.if-rows-p.false) _ x.1
+    ]
 
 pub returns : goal.returns
 returns c = gathering_end c.loop-p.invariant (length_gathered _ _ _ (whole (start c))) c.loop-p-test.false

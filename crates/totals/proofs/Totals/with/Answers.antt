@@ -6,6 +6,5 @@ use Rattle.totals.proofs.Totals.with.Goals as goal
 pub returns : goal.returns
 unfolding plus with_set
 returns c =
-    let start = c in
     (λ i. record { shown = c.raise.ensures i; on = c.raise-2.ensures i; identifiers = c.raise-3.ensures i })
-    ∙ ap (plus start.args.self) start.of_set-set.ensures
+    ∙ ap (plus c.args.self) c.of_set-set.ensures

@@ -6,6 +6,5 @@ use Rattle.totals.proofs.Totals.without.Goals as goal
 pub returns : goal.returns
 unfolding minus without_set
 returns c =
-    let start = c in
     (λ i. record { shown = c.lower.ensures i; on = c.lower-2.ensures i; identifiers = c.lower-3.ensures i })
-    ∙ ap (minus start.args.self) start.of_set-set.ensures
+    ∙ ap (minus c.args.self) c.of_set-set.ensures
