@@ -8,11 +8,6 @@ use Rattle.sets.proofs.PlaceLaws.{stands, stands_not}
 use Rattle.table.proofs.GivenLaws.{sets_are, given_wrong, given_right, stands_short, stands_shown, copies_missing, copies_held, not_copied_as}
 use Rattle.table.proofs.copy_out.Goals as goal
 
--- a held key has one of the table's places
-short : (c : goal.Else-not-stands_at) → c.place_of-at.result < most_keys
-short c =
-    stands_short c.args.table c.meets.ensures c.if-not-meets.false _ _ (sym c.stands_at.ensures ∙ c.if-not-stands_at.false)
-
 pub returns-then-not-meets : goal.returns-then-not-meets
 returns-then-not-meets c = given_wrong c.meets.ensures c.if-not-meets.true (not_copied_as _ _ _ _ c.not_copied.ensures)
 
@@ -23,19 +18,19 @@ returns-then-not-stands_at c =
     ∙ copies_missing _ d m e _ (stands_not _ d.sets (sets_are _ d m e) _ _ c.place_of-at.ensures (sym c.stands_at.ensures ∙ c.if-not-stands_at.true)) _ _)
 
 pub offset_bounds-sets-at : goal.offset_bounds-sets-at
-offset_bounds-sets-at c = let w = short c in omega arith
+offset_bounds-sets-at c = let w = stands_short c.args.table c.meets.ensures c.if-not-meets.false _ _ (sym c.stands_at.ensures ∙ c.if-not-stands_at.false) in omega arith
 
 pub bounds-sets-at : goal.bounds-sets-at
-bounds-sets-at c = short c
+bounds-sets-at c = stands_short c.args.table c.meets.ensures c.if-not-meets.false _ _ (sym c.stands_at.ensures ∙ c.if-not-stands_at.false)
 
 pub bounds-sets-at-2 : goal.bounds-sets-at-2
-bounds-sets-at-2 c = short c
+bounds-sets-at-2 c = stands_short c.args.table c.meets.ensures c.if-not-meets.false _ _ (sym c.stands_at.ensures ∙ c.if-not-stands_at.false)
 
 pub offset_bounds-sets-at-2 : goal.offset_bounds-sets-at-2
-offset_bounds-sets-at-2 c = let w = short c in omega arith
+offset_bounds-sets-at-2 c = let w = stands_short c.args.table c.meets.ensures c.if-not-meets.false _ _ (sym c.stands_at.ensures ∙ c.if-not-stands_at.false) in omega arith
 
 pub bounds-sets-at-3 : goal.bounds-sets-at-3
-bounds-sets-at-3 c = short c
+bounds-sets-at-3 c = stands_short c.args.table c.meets.ensures c.if-not-meets.false _ _ (sym c.stands_at.ensures ∙ c.if-not-stands_at.false)
 
 pub copy_set-requires : goal.copy_set-requires
 copy_set-requires c =
