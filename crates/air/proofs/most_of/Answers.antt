@@ -5,12 +5,12 @@ use Rattle.air.proofs.most_of.Goals as goal
 
 pub returns-then-width-eq4 : goal.returns-then-width-eq4
 unfolding piece_most
-returns-then-width-eq4 c = rw (← c.width_of_lem.ensures, eq-eqb _ _ c.if-width-eq4.true)
+returns-then-width-eq4 c = rw (← c.width_of-width.ensures, eq-eqb _ _ c.if-width-eq4.true)
 
 pub returns-then-width-eq3 : goal.returns-then-width-eq3
 unfolding piece_most
-returns-then-width-eq3 c = rw (← c.width_of_lem.ensures, ne_eqb _ _ c.if-width-eq4.false, eq-eqb _ _ c.if-width-eq3.true)
+returns-then-width-eq3 c = rw (← c.width_of-width.ensures, ne_eqb _ _ c.if-width-eq4.false, eq-eqb _ _ c.if-width-eq3.true)
 
 pub returns-else-width-eq3 : goal.returns-else-width-eq3
 unfolding piece_most
-returns-else-width-eq3 c = rw (← c.width_of_lem.ensures, ne_eqb _ _ c.if-width-eq4.false, ne_eqb _ _ c.if-width-eq3.false)
+returns-else-width-eq3 c = rw (← c.width_of-width.ensures, ne_eqb _ _ c.if-width-eq4.false, ne_eqb _ _ c.if-width-eq3.false)

@@ -12,9 +12,9 @@ use Rattle.air.proofs.put_fig.Goals as goal
 
 -- the bytes of the numbers
 small : (c : goal.After-bit_of-state)
-    → (c.args.part.to - c.args.part.from) * c.width_of_lem.result ≤ 24
+    → (c.args.part.to - c.args.part.from) * c.width_of-width.result ≤ 24
 small c =
-    rw c.width_of_lem.ensures (ids_few c.args.key (c.args.part.to - c.args.part.from) (omega (arith, c.requires.few)))
+    rw c.width_of-width.ensures (ids_few c.args.key (c.args.part.to - c.args.part.from) (omega (arith, c.requires.few)))
 
 pub overflow_mul-head : goal.overflow_mul-head
 overflow_mul-head c = omega (arith, small c)
@@ -33,11 +33,11 @@ overflow_add-head-9 c = omega (arith, c.requires.few, c.requires.kind, most_smal
 
 pub put_numbers-requires : goal.put_numbers-requires
 put_numbers-requires c =
-    (omega (arith, c.width_of_lem.ensures, width_most c.args.key), c.requires.ahead, c.requires.inside)
+    (omega (arith, c.width_of-width.ensures, width_most c.args.key), c.requires.ahead, c.requires.inside)
 
 pub returns : goal.returns
 returns c =
     puts_as
-    (fig_made c.args.key c.args.on c.args.part c.args.numbers.now _ _ _ _ c.width_of_lem.ensures refl c.requires.inside
+    (fig_made c.args.key c.args.on c.args.part c.args.numbers.now _ _ _ _ c.width_of-width.ensures refl c.requires.inside
     c.bit_of-more.ensures.0 c.bit_of-state.ensures.0)
     (puts_then c.put_bytes-p.ensures c.put_numbers.ensures)

@@ -33,4 +33,4 @@ pub returns : goal.returns
 returns c =
     let a = c.args in
     answer_done a.table (c.meets.ensures.sound c.if-not-meets.false) a.out.now c.count_all.result
-    c.count_all.ensures.0 _ _ c.if-out-count_all.false c.put_all_lem.ensures
+    c.count_all.ensures.0 _ _ c.if-out-count_all.false c.put_all-size.ensures

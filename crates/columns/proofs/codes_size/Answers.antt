@@ -9,8 +9,8 @@ use Rattle.columns.specs.Cells.{number_in, row_size}
 use Rattle.columns.proofs.codes_size.Goals as goal
 
 -- a code has eight digits at most
-narrow : (c : goal.After-width_of) → c.width_of_lem.result ≤ 4
-narrow c = omega (arith, c.width_of_lem.ensures, width_most c.args.rows.key)
+narrow : (c : goal.After-width_of) → c.width_of.result ≤ 4
+narrow c = omega (arith, c.width_of.ensures, width_most c.args.rows.key)
 
 pub overflow_mul-width_of : goal.overflow_mul-width_of
 overflow_mul-width_of c = record { fits = omega (arith, narrow c) }
@@ -28,6 +28,6 @@ pub returns : goal.returns
 returns c =
     let a = c.args in
     let w = a.rows in (
-      ap (λ (k : ℕ). a.n * k) (c.row_size.ensures.0 ∙ ap (λ (k : ℕ). row_size w.csv w.on (number_in w) (2 + 2 * k)) c.width_of_lem.ensures),
+      ap (λ (k : ℕ). a.n * k) (c.row_size.ensures.0 ∙ ap (λ (k : ℕ). row_size w.csv w.on (number_in w) (2 + 2 * k)) c.width_of.ensures),
       mul-le-mul {n₁ = a.n} {n₂ = most_ids} {m₂ = 62} c.requires c.row_size.ensures.1,
     )

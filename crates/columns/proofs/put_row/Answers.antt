@@ -13,18 +13,18 @@ use Rattle.columns.proofs.Lines.{third_column}
 use Rattle.columns.proofs.put_row.Goals as goal
 
 pub overflow_mul-digits : goal.overflow_mul-digits
-overflow_mul-digits c = record { fits = omega (arith, c.width_of_lem.ensures, width_most c.args.rows.key) }
+overflow_mul-digits c = record { fits = omega (arith, c.width_of-digits.ensures, width_most c.args.rows.key) }
 
 pub returns : goal.returns
 unfolding row_text row_of cells_text
 returns c =
     let a = c.args in
     let csv = a.rows.csv in
-    let w : 2 * c.width_of_lem.result ≡ 2 * key_width a.rows.key = ap (λ (k : ℕ). 2 * k) c.width_of_lem.ensures in
+    let w : 2 * c.width_of-digits.result ≡ 2 * key_width a.rows.key = ap (λ (k : ℕ). 2 * k) c.width_of-digits.ensures in
     let first = ap (λ (d : ℕ). filled csv 9 (cell_text csv (cond (eqb a.kind 0) (cell_of a.gone d a.n) blank))) w in
     let second = ap (λ (d : ℕ). filled csv 9 (cell_text csv (cond (eqb a.kind 1) (cell_of a.gone d a.n) blank))) w in
     let third =
-    ap (λ (x : Cell). filled csv 9 (cell_text csv x)) (third_column a.kind (cell_of a.gone (2 * c.width_of_lem.result) a.n))
+    ap (λ (x : Cell). filled csv 9 (cell_text csv x)) (third_column a.kind (cell_of a.gone (2 * c.width_of-digits.result) a.n))
     ∙ ap (λ (d : ℕ). filled csv 9 (cell_text csv (cond (eqb a.kind 0 || eqb a.kind 1) blank (cell_of a.gone d a.n)))) w in
     puts_then
     (puts_then

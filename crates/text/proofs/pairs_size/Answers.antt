@@ -8,10 +8,10 @@ use Rattle.rules.proofs.TableRules.{width_most}
 use Rattle.text.proofs.pairs_size.Goals as goal
 
 -- a number has eight digits at most
-narrow : (c : goal.After-width_of) → c.width_of_lem.result ≤ 4
-narrow c = omega (arith, c.width_of_lem.ensures, width_most c.args.key)
+narrow : (c : goal.After-width_of) → c.width_of.result ≤ 4
+narrow c = omega (arith, c.width_of.ensures, width_most c.args.key)
 
-few : (c : goal.After-width_of) → c.args.n * (2 + 2 * c.width_of_lem.result) ≤ 1280
+few : (c : goal.After-width_of) → c.args.n * (2 + 2 * c.width_of.result) ≤ 1280
 few c = mul-le-mul {n₁ = c.args.n} {n₂ = most_ids} {m₂ = 10} c.requires (omega (arith, narrow c))
 
 pub overflow_mul-result : goal.overflow_mul-result
@@ -24,4 +24,4 @@ pub overflow_mul-result-2 : goal.overflow_mul-result-2
 overflow_mul-result-2 c = record { fits = omega (arith, few c) }
 
 pub returns : goal.returns
-returns c = (ap (λ (w : ℕ). c.args.n * (2 + 2 * w)) c.width_of_lem.ensures, few c)
+returns c = (ap (λ (w : ℕ). c.args.n * (2 + 2 * w)) c.width_of.ensures, few c)

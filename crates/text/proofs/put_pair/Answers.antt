@@ -7,11 +7,11 @@ use Rattle.out.proofs.Runs.{puts_as, puts_then}
 use Rattle.text.proofs.put_pair.Goals as goal
 
 pub overflow_mul-width_of : goal.overflow_mul-width_of
-overflow_mul-width_of c = record { fits = omega (arith, c.width_of_lem.ensures, width_most c.args.key) }
+overflow_mul-width_of c = record { fits = omega (arith, c.width_of.ensures, width_most c.args.key) }
 
 pub returns : goal.returns
 unfolding pair_text pair
 returns c =
     puts_as
-    (rw (c.letter_of.ensures, c.width_of_lem.ensures))
+    (rw (c.letter_of.ensures, c.width_of.ensures))
     (puts_then (puts_then c.put-p.ensures c.put-q.ensures) c.put_hex.ensures)

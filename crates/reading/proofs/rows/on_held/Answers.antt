@@ -5,7 +5,7 @@ use Rattle.reading.proofs.HeldRows.{row_state, row_none, row_added, row_long, ro
 use Rattle.reading.proofs.rows.on_held.Goals as goal
 
 pub returns-then-not-has_list : goal.returns-then-not-has_list
-returns-then-not-has_list c = row_state _ _ (λ j. (c.type_inv.body j).fits) _ _ _ _ _ _ _ (sym c.has_list.ensures ∙ c.if-not-has_list.true) c.step_of_lem.ensures
+returns-then-not-has_list c = row_state _ _ (λ j. (c.type_inv.body j).fits) _ _ _ _ _ _ _ (sym c.has_list.ensures ∙ c.if-not-has_list.true) c.step_of.ensures
 
 pub returns-then-len-eq0 : goal.returns-then-len-eq0
 returns-then-len-eq0 c = row_none _ _ (λ j. (c.type_inv.body j).fits) _ _ _ _ _ _ _ (sym c.has_list.ensures ∙ c.if-not-has_list.false) (sym c.is_continuation.ensures ∙ c.if-is_continuation.true) c.if-len-eq0.true c.step_of-then-len-eq0.ensures
