@@ -6,7 +6,8 @@ Its table of public functions has a row for every `pub fn` of the libraries; eac
 and one whose edit changes a definition, or says why there is none, and at least one of each stands in the gate; and every edit that there is stands in that table, in
 the one of document 01's wrong programs or in that of the command. Every old text of an edit stands exactly once where it says, and every statement that is copied
 stands so in the source. Every name of a definition, a theorem or a function that STATEMENTS.md or RULES.md sets apart is declared in
-some crate, and crates.txt names no crate before it is listed. Exit status 1 otherwise.
+some crate, one that stands in a column of definitions or theorems by its specs/ or proofs/, and crates.txt names no crate before it is
+listed. Exit status 1 otherwise.
 """
 
 import re
@@ -26,7 +27,7 @@ def public_functions():
     """(crate, function) of every `pub fn`, with its type in front."""
     for crate in libraries():
         owner = ""
-        for line in "\n".join(path.read_text() for path in sorted(crate.glob("src/*.rt"))).splitlines():
+        for line in "\n".join(path.read_text() for path in sorted(crate.glob("src/**/*.rt"))).splitlines():
             block = re.match(r"impl(?:<'a>)? (\w+)", line)
             if block or line == "}":
                 owner = block.group(1) + "::" if block else ""
@@ -45,7 +46,8 @@ def edits():
             if line.startswith("file: "):
                 at = line[6:].strip()
                 kinds.add(at.split("/")[0])
-                texts.setdefault(at, (ROOT / "crates" / crate / at).read_text())
+                there = ROOT / "crates" / crate / at
+                texts.setdefault(at, there.read_text() if there.is_file() else "")
             elif line.startswith("old: "):
                 old = line[5:]
                 once = once and texts[at].count(old) == 1
@@ -81,14 +83,25 @@ def misplaced():
         seen.add(name)
 
 
-def declared():
-    """Every name that some crate declares: definitions, laws, constructors and fields, functions and types."""
+def stated():
+    """Every name that some specs/ or proofs/ declares: definitions, laws, constructors and fields."""
     names = set()
-    for path in sorted(ROOT.glob("crates/**/*.antt")):
-        names.update(re.findall(r"^ *(?:(?:unfoldable|abbrev|pub|data|record) )*([^\s:(){}]+)(?: [^:\n]*)? : ", path.read_text(), re.M))
-    for path in sorted(ROOT.glob("crates/**/*.rt")):
+    for part in ("specs", "proofs"):
+        for path in sorted(ROOT.glob("crates/*/%s/**/*.antt" % part)):
+            names.update(re.findall(r"^ *(?:(?:unfoldable|abbrev|opaque|pub|data|record) )*([^\s:(){}]+)(?: [^:\n]*)? :(?: |$)", path.read_text(), re.M))
+    return names
+
+
+def coded():
+    """Every name that some src/ declares: functions and types."""
+    names = set()
+    for path in sorted(ROOT.glob("crates/*/src/**/*.rt")):
         names.update(re.findall(r"(?:fn|struct|enum) (\w+)", path.read_text()))
     return names
+
+
+# The columns of STATEMENTS.md that hold definitions or theorems, by heading; a function may have the same name.
+COLUMNS = {"The rules (document 01)": 1, "The demands (document 00)": 1, "Bounds": 1, "Single answers": 1, "Public functions": 1}
 
 
 # Words set apart that are no names of ours: commands, programs, files, the kit's, and words of the product.
@@ -126,9 +139,13 @@ def main():
     wrong += ["%s: %s: listed, and not there" % key for key in listed if key not in set(public_functions())]
     wrong += ["%s: %s: an edit that STATEMENTS.md does not name" % key for key in known if key not in used]
     copied = list(quotes(text))
-    wrong += ["%s: not there as copied: %s" % (path, part.splitlines()[0]) for path, part in copied if part not in (ROOT / path).read_text()]
+    wrong += ["%s: not there as copied: %s" % (path, part.splitlines()[0]) for path, part in copied if not (ROOT / path).is_file() or part not in (ROOT / path).read_text()]
     wrong += ["crates.txt: " + line for line in misplaced()]
-    names = declared() | {name for _, name in known} | {path.name for path in ROOT.glob("crates/*")}
+    laws = stated()
+    for heading, column in COLUMNS.items():
+        cells = " ".join(row[column].split(", the same file: ")[0] for row in rows(text, heading))
+        wrong += ["docs/STATEMENTS.md: %s: no definition or theorem is called %s" % (heading, word) for word in sorted(set(cited(cells))) if word not in laws]
+    names = laws | coded() | {name for _, name in known} | {path.name for path in ROOT.glob("crates/*")}
     for page in ("docs/STATEMENTS.md", "docs/RULES.md"):
         wrong += ["%s: nothing is called %s" % (page, word) for word in sorted(set(cited((ROOT / page).read_text()))) if word not in names]
     for line in wrong:

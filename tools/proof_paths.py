@@ -1,16 +1,18 @@
 #!/usr/bin/env python3
 """Paths of `.before` in a proof, by name and back, so that a change of code does not break a proof by counting.
 
-    tools/proof_paths.py names CRATE FUNCTION     before the change: `c .before .before .loop .inv` becomes `@loop .inv`
-    tools/proof_paths.py paths CRATE FUNCTION     after it, under the new skeleton: `@loop .inv` becomes the path again
-    tools/proof_paths.py show CRATE FUNCTION      what can be named at each need
+It reads the older form alone, proofs and generated files of rattle-kit-5b, and is kept for the history: a proof of today names the steps as
+Rattle does (`c.loop.inv`, `c.put.ensures`), so that nothing in it is counted.
 
-From the project's root. FUNCTION is its folder below proofs/, as `Table/meets`. `@loop` is the nearest thing called `loop` before the need,
+    tools/proof_paths.py names LTS PROOF     before a change: `c .before .before .loop .inv` becomes `@loop .inv`
+    tools/proof_paths.py paths LTS PROOF     after it, under the new skeleton: `@loop .inv` becomes the path again
+    tools/proof_paths.py show LTS            what can be named at each need
+
+LTS is the file Lts.antt that was generated for the function, PROOF the function's Proof.antt. `@loop` is the nearest thing called `loop` before the need,
 `@loop#2` the one before that; `@@At-loop` is the context of that place itself. Only paths that begin at `c`, the context of a need, are turned;
 what a `let` binds stays as it is. Where a name is not known it is left, and said.
 """
 import re
-import subprocess
 import sys
 from pathlib import Path
 
@@ -113,20 +115,15 @@ def turned(proof, places, how):
 
 
 def main():
-    if len(sys.argv) != 4 or sys.argv[1] not in ("names", "paths", "show"):
+    if (sys.argv[1:2], len(sys.argv)) not in ((["names"], 4), (["paths"], 4), (["show"], 3)):
         sys.exit(__doc__)
-    how, crate, function = sys.argv[1], sys.argv[2], sys.argv[3].strip("/")
-    made = Path("target/generated")
-    subprocess.run(["rt", "dev", crate, "--generated", str(made)], stdout=subprocess.DEVNULL, stderr=subprocess.DEVNULL)
-    generated = made / ("Rattle·%s·proofs" % crate) / "proofs" / function / "Lts.antt"
-    if not generated.exists():
-        sys.exit("proof_paths: nothing is generated for %s: is it covered, and do the functions that it calls have their proofs?" % function)
-    places = Places(generated.read_text(encoding="utf-8"))
+    how = sys.argv[1]
+    places = Places(Path(sys.argv[2]).read_text(encoding="utf-8"))
     if how == "show":
         for need, place in places.needs.items():
             print("%s: %s" % (need, " ".join("@" + thing for _, things in places.way(place) for thing in things)))
         return
-    path = Path("crates", crate, "proofs", function, "Proof.antt")
+    path = Path(sys.argv[3])
     text, unknown = turned(path.read_text(encoding="utf-8"), places, how)
     path.write_text(text, encoding="utf-8")
     for line in unknown:
