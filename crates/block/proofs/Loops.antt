@@ -278,7 +278,7 @@ module _ (fib : List ℕ) (found : Pushed) (at : ℕ) (block : length fib ≡ 32
     fig_inside = (lies.holds, lies.within)
 
     pub fig_goes_on : 30 - next.at < 30 - at
-    fig_goes_on = omega (arith, lies.holds, lies.begins, lies.goes_on, lies.before)
+    fig_goes_on = omega (arith, lies.holds, lies.begins, lies.goes_on_law, lies.before)
 
     pub can_push : CanPush fib start stop found
     can_push =
@@ -297,7 +297,7 @@ module _ (fib : List ℕ) (found : Pushed) (at : ℕ) (block : length fib ≡ 32
 
     still : 30 < next.at + less
     unfolding less
-    still = omega (arith, so.spare, (fig_spare so.left so.spare).1, lies.holds, lies.begins, lies.goes_on)
+    still = omega (arith, so.spare, (fig_spare so.left so.spare).1, lies.holds, lies.begins, lies.goes_on_law)
 
     -- the fields of this FIG are those of its body
     fig_fields : located_of fig ≡ located_in fib start stop
@@ -318,8 +318,8 @@ module _ (fib : List ℕ) (found : Pushed) (at : ℕ) (block : length fib ≡ 32
     figs_next l more p =
         let w = p.fields so.fields so.stored in
         record {
-          within = omega (arith, lies.within, lies.goes_on);
-          room = omega (arith, p.room, lies.goes_on);
+          within = omega (arith, lies.within, lies.goes_on_law);
+          room = omega (arith, p.room, lies.goes_on_law);
           least = p.least;
           most = p.most;
           fields = w.0;
@@ -335,8 +335,8 @@ module _ (fib : List ℕ) (found : Pushed) (at : ℕ) (block : length fib ≡ 32
     pub figs_skip : linking kind (body fib start stop) ≡ false → FigsSoFar fib found next.at
     figs_skip l =
         record {
-          within = omega (arith, lies.within, lies.goes_on);
-          room = omega (arith, so.room, lies.holds, lies.begins, lies.goes_on);
+          within = omega (arith, lies.within, lies.goes_on_law);
+          room = omega (arith, so.room, lies.holds, lies.begins, lies.goes_on_law);
           least = so.least;
           most = so.most;
           fields = so.fields;

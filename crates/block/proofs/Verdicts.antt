@@ -8,7 +8,7 @@ use mathlib.Core.List.{List, [], ◌∷◌, ◌++◌, map, append_assoc, append-
 use lib.ListN.{length}
 use lib.Dec.{ltb}
 use borrow.Author.Tests.{ltb-true, ltb-false, lt-ltb, le-ltb, eq-eqb}
-use Rattle.rules.specs.declared.Outcome.TheVariants.{WrongFig, WrongField, WrongValue, EmptyStart}
+use Rattle.rules.specs.declared.Outcome.TheVariants.{WrongFig, WrongValue, EmptyStart}
 use Rattle.rules.specs.Block.{Placed, what_of, Walk, whole, broken, after, Fig, figs}
 use Rattle.rules.specs.Field.{Field as FieldOf, is_linking, fields_of, wrong_value, empty_start}
 use Rattle.rules.specs.Outcomes.{taken, refused, joined, all_fields, some?, first_place, judge_fields, judge_figs}

@@ -1,6 +1,6 @@
 -- How one pass over a block keeps the order of 4, 5 and 6, and the place: what has been found so far is a fault and the fields, and
 -- the answer to the whole follows from those and from what is still to come.
-use Rattle.std.specs.Prelude.{ℕ, ◌+◌, ◌-◌, ◌*◌, ◌≤◌, ◌<◌, ◌≡◌, cond, List, [], ◌∷◌, ◌++◌, map, length, take, drop, ltb, eqb}
+use Rattle.std.specs.Prelude.{ℕ, ◌+◌, ◌-◌, ◌*◌, ◌≤◌, ◌<◌, ◌≡◌, cond, List, ◌++◌, map, length, take, drop, ltb, eqb}
 use Rattle.rules.specs.declared.Outcome.TheVariants.{WrongField, WrongValue, EmptyStart}
 use Rattle.rules.specs.Block.{Placed, what_of, Walk, whole, broken, walk, figs}
 use Rattle.rules.specs.Field.{Field as FieldOf, field_at, wrong_value, empty_start}

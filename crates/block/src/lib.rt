@@ -2,6 +2,8 @@
 // that order, each over the whole block before the next, at the place of the first fault of the class answered. One pass over the
 // block finds all of it: the order of 4, 5 and 6 is kept by a fault whose class only falls, from 7, no fault, to the smallest that any
 // field has, and whose place is that of the first field of that class.
+#![tactic(auto)]
+
 ghost use Rattle.std.specs.Prelude.{◌≡◌, length};
 ghost use Rattle.block.specs.Judged.{nothing, field_in, no_spots, judged};
 ghost use Rattle.block.specs.Faults.{class_in, worse, JudgesFigs, Concludes, CanPush, Pushes};

@@ -83,10 +83,10 @@ goes_on_law n s = λ i. walk 0 (fig_at (s.keeps i).now) n (s.moves i)
 reads_walk : {r : FigReader} {w : Walk (Placed FigOf)} (n : ℕ) → Reads r w → length r.fib.now ≡ 32 → Enough n r.at → w ≡ walk 0 (fig_at r.fib.now) n r.at
 unfolding found
 reads_walk zero x h e = absurd (omega arith)
-reads_walk (suc n) (at_end s) h e = sym (walk_end 0 _ n _ (sym (stepped_means h s)))
-reads_walk (suc n) (at_wrong s) h e = sym (block_wrong _ n _ (sym (stepped_means h s)))
-reads_walk (suc n) (past s rest) h e =
-    ap (after _) (reads_walk n rest (left_block h s) (left_enough n s e) ∙ goes_on_law n s) ∙ sym (block_item _ n _ _ _ (sym (stepped_means h s)))
+reads_walk {r = r} (suc n) (at_end s) h e = sym (walk_end 0 _ n _ (sym (stepped_means h s)))
+reads_walk {r = r} (suc n) (at_wrong s) h e = sym (block_wrong _ n _ (sym (stepped_means h s)))
+reads_walk {r = r} (suc n) (past {r' = r'} {kind = kind} {start = start} {stop = stop} {next = next} {w = w} s rest) h e =
+    ap (after _) (reads_walk {r = r'} n rest (left_block h s) (left_enough n s e) ∙ goes_on_law n s) ∙ sym (block_item _ n _ _ _ (sym (stepped_means h s)))
 
 -- one step of the rules' walk by a reader, given the steps after it
 walk_step : (n : ℕ) {r r' : FigReader} (f : FigStep) → Stepped r f r' → length r.fib.now ≡ 32 → Enough (suc n) r.at

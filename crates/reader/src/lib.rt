@@ -1,8 +1,8 @@
 // A small reader over a lent block: the block's slice and a place in it. A step says what stands at the place, as the walk
 // by cursor of crate figs finds it, and moves the reader on.
 // No function has a `requires`: what is no block is answered as wrong, and a place past the end as the end.
-// The borrow checker covers no function over a struct that holds a slice, so `over` and `step` are proved by hand; what they
-// call takes plain values.
+#![tactic(auto)]
+
 ghost use Rattle.std.specs.Prelude.{◌≡◌};
 ghost use Rattle.reader.specs.Reader.{place_after, Stepped};
 

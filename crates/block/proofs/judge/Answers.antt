@@ -1,6 +1,5 @@
 -- `block::judge` meets its contract: the tests of 1 and 2 come first, in that order, and then the FIGs.
 -- Assumes nothing.
-use borrow.Author.Tests.{not-true, not-false}
 use Rattle.block.proofs.Answering.{judges_no_block, judges_check, judges_figs}
 use Rattle.block.proofs.judge.Goals as goal
 

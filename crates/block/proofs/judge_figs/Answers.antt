@@ -1,8 +1,9 @@
-use Prim.Native.Nat.{◌-◌, ◌≤◌, ◌<◌}
+use Prim.Native.Nat.{◌≤◌, ◌<◌}
 use native.Mathlib.Omega.{arith}
 use mathlib.Core.Path.{refl, sym, ◌∙◌}
 use Rattle.block.proofs.Loops.{figs_begin, figs_end, figs_break, fig_inside, fig_goes_on, can_push, figs_next, figs_skip}
 use Rattle.block.proofs.judge_figs.Goals as goal
+use Rattle.block.proofs.judge_figs.Goals.{In-Fig}
 
 pub loop-kind-init : goal.loop-kind-init
 loop-kind-init c = figs_begin _ _ _ refl c.no_spots.ensures c.first-cursor.ensures
@@ -16,7 +17,7 @@ returns-in-Wrong c =
     figs_break _ _ _ c.requires c.loop-kind.invariant (sym c.step-step.ensures ∙ c.in-Wrong.is) _ c.refuse.ensures
 
 -- where the body of the FIG lies
-inside : (c : goal.In-Fig-2)
+inside : (c : In-Fig)
     → (c.in-Fig.start < c.in-Fig.end) × (c.in-Fig.end ≤ 30)
 inside c =
     fig_inside _ _ _ c.requires c.loop-kind.invariant _ _ _ _ (sym c.step-step.ensures ∙ c.in-Fig.is)
