@@ -13,7 +13,7 @@ pub returns-then-not-rows : goal.returns-then-not-rows
 unfolding row_size
 returns-then-not-rows c =
     let w = c.args.rows in
-    let e : w.csv ≡ false = c.if-not-rows.true in
+    let e : w.csv ≡ false = not-true _ c.if-not-rows.true in
     let base : cond w.csv (10 + length (state_text w.on) + c.args.cell) 48 ≡ 48 = rw (e) in
     (omega (arith, c.end_size-end.ensures.0), omega (arith, c.end_size-end.ensures.1))
 
@@ -21,7 +21,7 @@ pub returns-then-rows : goal.returns-then-rows
 unfolding row_size state_text
 returns-then-rows c =
     let w = c.args.rows in
-    let e : w.csv ≡ true = c.if-not-rows.false in
+    let e : w.csv ≡ true = not-false _ c.if-not-rows.false in
     let base : cond w.csv (10 + length (state_text w.on) + c.args.cell) 48 ≡ 12 + c.args.cell = rw (e, c.if-rows.true) (omega arith) in
     (omega (arith, c.end_size-end.ensures.0), omega (arith, c.end_size-end.ensures.1, c.requires))
 
@@ -29,6 +29,6 @@ pub returns-else-rows : goal.returns-else-rows
 unfolding row_size state_text
 returns-else-rows c =
     let w = c.args.rows in
-    let e : w.csv ≡ true = c.if-not-rows.false in
+    let e : w.csv ≡ true = not-false _ c.if-not-rows.false in
     let base : cond w.csv (10 + length (state_text w.on) + c.args.cell) 48 ≡ 13 + c.args.cell = rw (e, c.if-rows.false) (omega arith) in
     (omega (arith, c.end_size-end.ensures.0), omega (arith, c.end_size-end.ensures.1, c.requires))
