@@ -2,6 +2,8 @@
 // spreadsheet, else for eyes; `numbered` with the numbers of blocks in a last column (document 02, R-9),
 // else without. A row has one code. Every function is proved; the one that is `pub` has no `requires`,
 // refuses a buffer that is too short, and else writes the text at its front.
+#![tactic(auto)]
+
 ghost use Rattle.std.specs.Prelude.{◌≡◌, cond, [], ◌++◌, ◌+◌, ◌*◌, ◌≤◌, length, replicate};
 ghost use Rattle.rules.specs.Collecting.{key_width, most_keys, most_ids};
 ghost use Rattle.lists.specs.Kinds.{is_dead};

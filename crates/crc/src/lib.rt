@@ -1,6 +1,8 @@
 // The block check (document 01, The block): the remainder of the data by x^16 + x^12 + x^5 + 1, by half
 // bytes (document 02, R-5), against the definitions of crate rules, which go bit by bit. The register is
 // the low 16 bits of a u32.
+#![tactic(auto)]
+
 ghost use Rattle.std.specs.Prelude.{◌≡◌, ◌*◌, ◌<◌, false, ◌&&◌, length, replicate, eqb};
 ghost use Rattle.rules.specs.Block.{bits, shifts, check_of, check_holds};
 ghost use Rattle.crc.specs.Remainders.{Remainders};

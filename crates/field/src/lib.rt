@@ -1,6 +1,8 @@
 // The linking field (document 01, The linking field): what stands at a place of a linking FIG's body, what a field says,
 // and its identifiers one at a time. Nothing is copied: a field knows where its identifiers begin and how many they are.
 // A DAB service number, an RDS PI code and a DRM or AMSS service are three types, so that none passes for another.
+#![tactic(auto)]
+
 ghost use Rattle.std.specs.Prelude.{◌≡◌, ◌+◌, ◌≤◌, ◌<◌, ◌^◌, get_or};
 ghost use Rattle.rules.specs.Field.{width, first_kind};
 ghost use Rattle.field.specs.FieldStep.{

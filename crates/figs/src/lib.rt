@@ -1,5 +1,7 @@
 // The FIGs of a block (document 01, The block), one at a time: a cursor is a place in the block, and a step from it
 // says what stands there. A FIG's body is not copied: a step gives its start and its end in the block.
+#![tactic(auto)]
+
 ghost use Rattle.std.specs.Prelude.{◌≡◌};
 ghost use Rattle.figs.specs.Figs.{step_at};
 

@@ -1,6 +1,7 @@
 // Lists of identifiers as they are stored: a shown set or an open list (document 01, Collecting).
 // Every function is proved and none that is `pub` has a `requires`. The stored form is store_list of
 // specs/Stored.antt; what a list may hold is if_there of crate rules.
+#![tactic(auto)]
 
 ghost use Rattle.std.specs.Prelude.{◌≡◌, not, ltb, ◌^◌, min, max, drop};
 ghost use Rattle.rules.specs.Field.{pair, named_by};

@@ -2,6 +2,8 @@
 // Every function is proved and none that is `pub` has a `requires`: what does not fit is not stored
 // (specs/Put.antt).
 // A caller that must leave a short buffer alone compares its length with the output's first.
+#![tactic(auto)]
+
 ghost use Rattle.std.specs.Prelude.{◌≡◌, [], ◌∷◌, ◌≤◌, ◌<◌, ◌/◌, ◌%◌, ◌^◌, length, take};
 ghost use Rattle.rules.specs.Outcomes.{number_of};
 ghost use Rattle.out.specs.Text.{hex_digit, hex_text, decimal};

@@ -1,5 +1,7 @@
 // What can be made of a table: its sets in lines or in columns, with the numbers of blocks (document 02, R-9) or without, its totals,
 // its sheet, its blocks for air. One function, by what is asked for, over the crates that write each; it has no `requires`.
+#![tactic(auto)]
+
 ghost use Rattle.out.specs.Answer.{Outputs};
 ghost use Rattle.outputs.specs.Output.{output_of};
 

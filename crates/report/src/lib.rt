@@ -1,5 +1,7 @@
 // The report of a recording (document 02, R-1): a line for each refused block, with the place where it broke, and the counts at the
 // end, over a lent buffer. Every function is proved and none that is `pub` has a `requires`: what does not fit is not stored.
+#![tactic(auto)]
+
 ghost use Rattle.rules.specs.Block.{bit};
 ghost use Rattle.rules.specs.Outcomes.{verdict, is_refused};
 ghost use Rattle.out.specs.Put.{Puts};

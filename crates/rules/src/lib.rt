@@ -3,6 +3,7 @@
 // enums that an answer is made of and the kinds of identifiers, so that the definitions and every program speak of the same ones.
 // Their numbers in document 01 are numberOf and note_number of specs/Outcomes.antt. The outcomes above 11 and the note above 8 are document
 // 02's and wait for their requests.
+#![tactic(auto)]
 
 // The numbered outcomes (document 01, Numbered outcomes), in their order.
 #[derive(Clone, Copy)]

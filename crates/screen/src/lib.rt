@@ -1,5 +1,7 @@
 // The totals of a table as the line that a screen shows (document 02, R-7), into a lent buffer. Every function is proved and none that
 // is `pub` has a `requires`.
+#![tactic(auto)]
+
 ghost use Rattle.std.specs.Prelude.{◌≡◌, ◌≤◌, length};
 ghost use Rattle.out.specs.Answer.{Outputs};
 ghost use Rattle.out.specs.Put.{Puts};

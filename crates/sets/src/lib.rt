@@ -1,6 +1,7 @@
 // The linkage sets of a table as they are stored (document 01, Collecting): the test of their rules, finding a key's place, opening
 // and shutting a place, counting the sets. Every function is proved and none that is `pub` has a `requires`. The stored form is
 // store_sets of specs/Stored.antt; what sets may hold is `sets_meet` of crate rules.
+#![tactic(auto)]
 
 ghost use Rattle.std.specs.Prelude.{◌≡◌, false, [], length, take, drop, ◌<◌};
 ghost use Rattle.rules.specs.Arrays.{opened, shut};

@@ -1,6 +1,7 @@
 // The table of linkage sets (document 01, Collecting): its limits, its empty table, the test of the table rules, its totals
 // (document 02, R-7), its count of blocks (R-9), forgetting a key and copying a set out. Every function is proved and none that is
 // `pub` has a `requires`. The stored form is store_table of specs/Stored.antt; what a table may hold is `meets` of crate rules.
+#![tactic(auto)]
 
 ghost use Rattle.std.specs.Prelude.{◌≡◌, Bool, length, take, ◌≤◌};
 ghost use Rattle.rules.specs.Collecting.{nothing};

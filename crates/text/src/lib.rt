@@ -4,6 +4,8 @@
 // each part there are its size and a writer at a place. put_state and put_pairs are `pub` too, for a
 // program that prints other lines of a table in the same words. Every function is proved and none that is
 // `pub` has a `requires`.
+#![tactic(auto)]
+
 ghost use Rattle.std.specs.Prelude.{◌≡◌, cond, [], ◌∷◌, ◌++◌, ◌+◌, ◌*◌, ◌≤◌, length};
 ghost use Rattle.rules.specs.Field.{pair};
 ghost use Rattle.rules.specs.Collecting.{key_width, most_keys, most_ids};

@@ -1,6 +1,7 @@
 // Totals of the sets that a table shows (document 02, R-7): how many are shown, how many of these are on, how many identifiers they
 // have. They are kept by what changes, a set shown, exchanged or forgotten; adding them up over the sets is for the table's test alone.
 // Every function is proved and none that is `pub` has a `requires`. The sums are those of specs/Totals.antt.
+#![tactic(auto)]
 
 ghost use Rattle.std.specs.Prelude.{◌≡◌, ◌-◌};
 ghost use Rattle.rules.specs.Block.{bit};

@@ -21,7 +21,7 @@ loop-k-preserved c =
     let at = c.loop-k in
     let inside = c.loop-k-test.true in
     elim c.if-set-ne0.branch [
-        then-set-ne0 w ↦ going_as w.out-is w.p-is refl (going_on (text_next a.csv a.numbered t at.k t.count inside w.if-set-ne0.true) at.invariant w.put_set-p.ensures)
+      | then-set-ne0 w ↦ going_as w.out-is w.p-is refl (going_on (text_next a.csv a.numbered t at.k t.count inside w.if-set-ne0.true) at.invariant w.put_set-p.ensures)
       | else-set-ne0 w ↦ going_as w.out-is w.p-is (text_skip a.csv a.numbered t at.k t.count inside w.if-set-ne0.false) at.invariant
     ]
 

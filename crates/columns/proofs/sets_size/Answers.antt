@@ -20,23 +20,23 @@ loop-i-preserved c =
     let at = c.loop-i in
     let inside = c.loop-i-test.true in
     elim c.if-list-ne0.branch [
-        then-list-ne0 w ↦ (
-      omega (
-        arith,
-        at.invariant.0,
-        w.size-is,
-        w.set_size-size.ensures.0,
-        ap length (text_next csv numbered t at.i t.count inside w.if-list-ne0.true),
-        length-append (text_at csv numbered t at.i) (text_from csv numbered t (at.i + 1) t.count),
-      ),
-      omega (arith, at.invariant.1, w.size-is, w.set_size-size.ensures.1),
-      omega (arith, inside),
-    )
+      | then-list-ne0 w ↦ (
+        omega (
+          arith,
+          at.invariant.0,
+          w.size-is,
+          w.set_size-size.ensures.0,
+          ap length (text_next csv numbered t at.i t.count inside w.if-list-ne0.true),
+          length-append (text_at csv numbered t at.i) (text_from csv numbered t (at.i + 1) t.count),
+        ),
+        omega (arith, at.invariant.1, w.size-is, w.set_size-size.ensures.1),
+        omega (arith, inside),
+      )
       | else-list-ne0 w ↦ (
-      omega (arith, at.invariant.0, w.size-is, ap length (text_skip csv numbered t at.i t.count inside w.if-list-ne0.false)),
-      omega (arith, at.invariant.1, w.size-is),
-      omega (arith, inside),
-    )
+        omega (arith, at.invariant.0, w.size-is, ap length (text_skip csv numbered t at.i t.count inside w.if-list-ne0.false)),
+        omega (arith, at.invariant.1, w.size-is),
+        omega (arith, inside),
+      )
     ]
 
 pub returns : goal.returns

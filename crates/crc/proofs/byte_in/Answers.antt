@@ -13,10 +13,9 @@ up_four-x-requires c = (c.requires.0, xor_lt 16 c.args.r c.at_top.result c.requi
 
 pub returns : goal.returns
 unfolding shifts
-returns c =
-    (
-      c.up_four.ensures.0
-          ∙ ap (λ (x : List Bool). shifts x (replicate 4 false)) c.up_four-x.ensures.0
-          ∙ rw c.at_top.ensures.0 (byte_at_once c.args.r c.args.b),
-      c.up_four.ensures.1,
-    )
+returns c = (
+  c.up_four.ensures.0
+      ∙ ap (λ (x : List Bool). shifts x (replicate 4 false)) c.up_four-x.ensures.0
+      ∙ rw c.at_top.ensures.0 (byte_at_once c.args.r c.args.b),
+  c.up_four.ensures.1,
+)

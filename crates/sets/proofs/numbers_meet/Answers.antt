@@ -17,7 +17,7 @@ pub loop-i-preserved : goal.loop-i-preserved
 loop-i-preserved c =
     below_more _ _ c.loop-i.invariant
     (λ z. elim c.if-list-eq0.branch [
-        then-list-eq0+else-numbers-i-ne0 w ↦ w.if-numbers-i-ne0.false
+      | then-list-eq0+else-numbers-i-ne0 w ↦ w.if-numbers-i-ne0.false
       | else-list-eq0 w ↦ absurd (w.if-list-eq0.false z)
     ])
 

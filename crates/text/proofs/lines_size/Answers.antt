@@ -22,18 +22,18 @@ loop-i-preserved c =
     let at = c.loop-i in
     let inside = c.loop-i-test.true in
     elim c.if-list-ne0.branch [
-        then-list-ne0 w ↦ (
-      omega (
-        arith,
-        at.invariant.0,
-        w.size-is,
-        w.line_size-size.ensures.0,
-        ap length (lines_next numbered t at.i t.count inside w.if-list-ne0.true),
-        length-append (line_with (number_text numbered (get_or t.confirmed at.i 0)) (shown_at t at.i)) (lines_from numbered t (at.i + 1) t.count),
-      ),
-      omega (arith, at.invariant.1, w.size-is, w.line_size-size.ensures.1),
-      omega (arith, inside),
-    )
+      | then-list-ne0 w ↦ (
+        omega (
+          arith,
+          at.invariant.0,
+          w.size-is,
+          w.line_size-size.ensures.0,
+          ap length (lines_next numbered t at.i t.count inside w.if-list-ne0.true),
+          length-append (line_with (number_text numbered (get_or t.confirmed at.i 0)) (shown_at t at.i)) (lines_from numbered t (at.i + 1) t.count),
+        ),
+        omega (arith, at.invariant.1, w.size-is, w.line_size-size.ensures.1),
+        omega (arith, inside),
+      )
       | else-list-ne0 w ↦ (omega (arith, at.invariant.0, w.size-is, ap length (lines_skip numbered t at.i t.count inside w.if-list-ne0.false)), omega (arith, at.invariant.1, w.size-is), omega (arith, inside))
     ]
 

@@ -22,7 +22,7 @@ loop-k-preserved c =
     let at = c.loop-k in
     let inside = c.loop-k-test.true in
     elim c.if-set-ne0.branch [
-        then-set-ne0 w ↦ going_as w.out-is w.p-is refl (going_on (lines_next numbered t at.k t.count inside w.if-set-ne0.true) at.invariant w.put_line-p.ensures)
+      | then-set-ne0 w ↦ going_as w.out-is w.p-is refl (going_on (lines_next numbered t at.k t.count inside w.if-set-ne0.true) at.invariant w.put_line-p.ensures)
       | else-set-ne0 w ↦ going_as w.out-is w.p-is (lines_skip numbered t at.k t.count inside w.if-set-ne0.false) at.invariant
     ]
 

@@ -46,6 +46,6 @@ returns c =
     let long = arrays c in
     record {
       sound = λ e. facts_stored _
-          (record { short = c.if-count-gt-KEYS.false; keys_meet_law = sym c.keys_meet.ensures ∙ c.if-not-keys_meet.false; keys_end = sym c.zeros_u32.ensures ∙ c.if-not-zeros_u32.false; on_end = sym c.all_off.ensures ∙ c.if-not-all_off.false; shown_hold = c.lists_meet.ensures.sound c.if-not-lists_meet.false; shown_end = c.none_from.ensures.sound c.if-not-none_from.false; numbers_hold = c.numbers_meet.ensures.sound c.if-not-numbers_meet.false; draft_hold = c.lists_meet-2.ensures.sound c.if-not-lists_meet-2.false; draft_end = c.none_from-2.ensures.sound e; }) long.0 long.1 long.2 long.3 long.4;
+          (record { short = c.if-count-gt-KEYS.false; keys_meet_law = sym c.keys_meet.ensures ∙ c.if-not-keys_meet.false; keys_end = sym c.zeros_u32.ensures ∙ c.if-not-zeros_u32.false; on_end = sym c.all_off.ensures ∙ c.if-not-all_off.false; shown_hold = c.lists_meet.ensures.sound c.if-not-lists_meet.false; shown_end = c.none_from.ensures.sound c.if-not-none_from.false; numbers_hold = c.numbers_meet.ensures.sound c.if-not-numbers_meet.false; draft_hold = c.lists_meet-2.ensures.sound c.if-not-lists_meet-2.false; draft_end = c.none_from-2.ensures.sound e }) long.0 long.1 long.2 long.3 long.4;
       complete = λ s. c.none_from-2.ensures.complete (stored_facts _ s).draft_end;
     }

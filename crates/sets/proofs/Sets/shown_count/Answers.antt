@@ -16,7 +16,7 @@ loop-k-preserved c =
     let at = c.loop-k in
     let inside = c.loop-k-test.true in
     elim c.if-shown-ne0.branch [
-        then-shown-ne0 w ↦ (at.invariant.0, omega (arith, at.invariant.1, w.n-is, ap length (sets_next t at.k end inside w.if-shown-ne0.true)), omega (arith, at.invariant.2, w.n-is))
+      | then-shown-ne0 w ↦ (at.invariant.0, omega (arith, at.invariant.1, w.n-is, ap length (sets_next t at.k end inside w.if-shown-ne0.true)), omega (arith, at.invariant.2, w.n-is))
       | else-shown-ne0 w ↦ (at.invariant.0, omega (arith, at.invariant.1, w.n-is, ap length (sets_skip t at.k end inside w.if-shown-ne0.false)), omega (arith, at.invariant.2, w.n-is))
     ]
 
