@@ -1,6 +1,8 @@
 // Writing the shown sets of a table for air (document 01, Writing for air): whole blocks into a lent
 // buffer. Every function is proved, and write_air, the one that is `pub`, has no `requires`.
 // A set is cut by places: a piece is a range of the set's identifiers (specs/Parts.antt).
+#![tactic(auto)]
+
 ghost use Rattle.std.specs.Prelude.{◌≡◌, ◌+◌, ◌*◌, ◌/◌, ◌%◌, ◌^◌, ◌≤◌, ◌<◌, length, take};
 ghost use Rattle.std.proofs.Math.Seq.{slice};
 ghost use Rattle.rules.specs.Block.{bit};

@@ -2,6 +2,8 @@
 // and a whole recording in one call. Every function is proved and none that is `pub` has a `requires`.
 // What a block does is read_block of crate rules, on the table's stored form.
 
+#![tactic(auto)]
+
 ghost use Rattle.std.specs.Prelude.{◌≡◌, not, ◌+◌, ◌<◌, length, eqb};
 ghost use Rattle.rules.specs.Block.{bit};
 ghost use Rattle.rules.specs.Collecting.{next_block};

@@ -2,6 +2,8 @@
 // table from it. Every function is proved, and none that is `pub` has a `requires`. The sheet's bytes are
 // `sheet` of crate layout, and a sheet is read as that crate's parser reads it, test by test.
 
+#![tactic(auto)]
+
 ghost use Rattle.std.specs.Prelude.{◌≡◌, not, ◌&&◌, ◌||◌, [], ◌≤◌, eqb, leb, ltb, length};
 ghost use Rattle.rules.specs.Block.{bit};
 ghost use Rattle.rules.specs.Collecting.{key_width, may_begin, kind_named, names_meet, most_keys, most_ids};

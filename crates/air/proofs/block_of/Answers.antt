@@ -9,8 +9,8 @@ use Rattle.air.proofs.block_of.Goals as goal
 
 pub slice_bounds-check_of-end : goal.slice_bounds-check_of-end
 slice_bounds-check_of-end c =
-    let long : length c.put.new.0 ≡ 32 = puts_length c.put.ensures ∙ puts_length c.put_fig-end.ensures in
-    sym (length-take-le _ c.put.new.0 (omega arith))
+    let long : length c.put.new.out ≡ 32 = puts_length c.put.ensures ∙ puts_length c.put_fig-end.ensures in
+    sym (length-take-le _ c.put.new.out (omega arith))
 
 pub returns : goal.returns
 returns c =

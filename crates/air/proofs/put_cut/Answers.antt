@@ -1,4 +1,4 @@
-use Prim.Native.Nat.{ℕ, ◌-◌}
+use Prim.Native.Nat.{ℕ}
 use native.Mathlib.Omega.{arith}
 use mathlib.Core.Path.{◌≡◌, sym, ap, subst}
 use lib.ListN.{length}
@@ -11,17 +11,6 @@ use Rattle.air.specs.Parts.{Fitting}
 use Rattle.air.proofs.Ranges.{left}
 use Rattle.air.proofs.Sets.{Turn, left_none, part_turn, part_fits}
 use Rattle.air.proofs.put_cut.Goals as goal
-
--- the range that was found is the next piece
-turn : (c : goal.After-part_at-part)
-    → Turn c.args.key
-    c.args.list c.loop-from.from c.part_at-part.result
-turn c =
-    let l = c.args.list in
-    let nl : length l.numbers ≡ most_ids = search rules in
-    let kl : length l.kinds ≡ most_ids = search rules in
-    part_turn l nl kl (holds_facts _ _ c.requires).short c.args.key c.loop-from.from c.part_at-part.result
-    c.loop-from-test.true c.part_at-part.ensures
 
 pub loop-from-init : goal.loop-from-init
 unfolding left
@@ -41,12 +30,22 @@ put_block-p-requires c =
 
 pub loop-from-smaller : goal.loop-from-smaller
 loop-from-smaller c =
-    omega (arith, (turn c).ahead, c.loop-from-test.true)
+    let l = c.args.list in
+    let nl : length l.numbers ≡ most_ids = search rules in
+    let kl : length l.kinds ≡ most_ids = search rules in
+    let turn : Turn c.args.key l c.loop-from.from c.part_at-part.result =
+    part_turn l nl kl (holds_facts _ _ c.requires).short c.args.key c.loop-from.from c.part_at-part.result c.loop-from-test.true c.part_at-part.ensures in
+    omega (arith, turn.ahead, c.loop-from-test.true)
 
 pub loop-from-preserved : goal.loop-from-preserved
 unfolding blocks_of
 loop-from-preserved c =
-    ((turn c).inside, going_on (ap (blocks_of c.args.key c.args.on) (turn c).next) c.loop-from.invariant.1 c.put_block-p.ensures)
+    let l = c.args.list in
+    let nl : length l.numbers ≡ most_ids = search rules in
+    let kl : length l.kinds ≡ most_ids = search rules in
+    let turn : Turn c.args.key l c.loop-from.from c.part_at-part.result =
+    part_turn l nl kl (holds_facts _ _ c.requires).short c.args.key c.loop-from.from c.part_at-part.result c.loop-from-test.true c.part_at-part.ensures in
+    (turn.inside, going_on (ap (blocks_of c.args.key c.args.on) turn.next) c.loop-from.invariant.1 c.put_block-p.ensures)
 
 pub shape_of-out : goal.shape_of-out
 shape_of-out c = c.loop-from.invariant.1.long

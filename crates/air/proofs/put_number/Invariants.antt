@@ -1,5 +1,5 @@
 -- `air::put_number` meets its contract: the low bytes are what is left to write.
-use Prim.Native.Nat.{◌-◌, ◌≤◌}
+use Prim.Native.Nat.{◌≤◌}
 use Rattle.pieces.specs.Air.{big_bytes}
 use Rattle.out.proofs.Runs.{Going}
 use Rattle.air.proofs.put_number.Given as goal

@@ -1,7 +1,6 @@
 -- `air::write_air` meets its contract.
 use native.Mathlib.Omega.{arith}
 use mathlib.Core.Path.{refl}
-use borrow.Author.Tests.{not-true, not-false}
 use Rattle.lists.proofs.StoredLaws.{fails}
 use Rattle.sets.proofs.SetsLaws.{stored_facts}
 use Rattle.table.proofs.GivenLaws.{sets_stored}

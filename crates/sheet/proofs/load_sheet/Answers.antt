@@ -14,14 +14,14 @@ read_sets-read-requires c = load_count _ (λ i. (c.type_inv.bytes i).fits) _ _ (
 pub returns-then-not-read : goal.returns-then-not-read
 returns-then-not-read c =
     load_no_sets _ (λ i. (c.type_inv.bytes i).fits) _ _ (sym c.in-At.is ∙ c.read_at_most.ensures)
-    _ c.read_sets-read.ensures _ c.not_a_sheet-then-not-read.ensures c.if-not-read.true
+    _ c.read_sets-read.ensures _ c.not_a_sheet-then-not-read.ensures (not-true _ c.if-not-read.true)
 
 pub returns-then-read-bytes : goal.returns-then-read-bytes
 returns-then-read-bytes c =
     load_left_over _ (λ i. (c.type_inv.bytes i).fits) _ _ (sym c.in-At.is ∙ c.read_at_most.ensures)
-    _ c.read_sets-read.ensures _ c.not_a_sheet-then-read-bytes.ensures c.if-not-read.false c.if-read-bytes.true
+    _ c.read_sets-read.ensures _ c.not_a_sheet-then-read-bytes.ensures (not-false _ c.if-not-read.false) c.if-read-bytes.true
 
 pub returns : goal.returns
 returns c =
     load_made _ (λ i. (c.type_inv.bytes i).fits) _ _ (sym c.in-At.is ∙ c.read_at_most.ensures)
-    _ c.read_sets-read.ensures c.if-not-read.false c.if-read-bytes.false _ c.of.ensures
+    _ c.read_sets-read.ensures (not-false _ c.if-not-read.false) c.if-read-bytes.false _ c.of.ensures

@@ -1,4 +1,3 @@
-use Prim.Native.Nat.{◌-◌}
 use native.Mathlib.Omega.{arith}
 use mathlib.Core.Path.{refl, sym, ap, subst}
 use Rattle.layout.specs.Sheet.{sheet_sets}
@@ -40,8 +39,8 @@ loop-i-preserved c =
     let at = c.loop-i in
     let h = c.loop-i-test.true in
     elim c.if-list-ne0.branch [
-        then-list-ne0 w ↦ going_as w.7 w.8 refl (going_on (sets_here t at.i t.count h w.if-list-ne0.true) at.invariant w.4.ensures)
-      | else-list-ne0 w ↦ going_as w.1 w.2 (ap sheet_sets (sets_skip t at.i t.count h w.if-list-ne0.false)) at.invariant
+      | then-list-ne0 w ↦ going_as w.out-is w.p-is refl (going_on (sets_here t at.i t.count h w.if-list-ne0.true) at.invariant w.put_set-p.ensures)
+      | else-list-ne0 w ↦ going_as w.out-is w.p-is (ap sheet_sets (sets_skip t at.i t.count h w.if-list-ne0.false)) at.invariant
     ]
 
 pub shape_of-out : goal.shape_of-out

@@ -1,6 +1,5 @@
 -- `sheet::read_id` meets its contract.
 use mathlib.Core.Path.{sym, ◌∙◌}
-use borrow.Author.Tests.{not-true, not-false}
 use Rattle.layout.specs.Parse.{number_fits}
 use Rattle.sheet.proofs.Tests.{if_none, if_failed, if_passed, id_wide, id_there, id_passes}
 use Rattle.sheet.proofs.read_id.Goals as goal

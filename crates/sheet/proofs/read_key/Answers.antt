@@ -2,7 +2,6 @@
 use mathlib.Core.Path.{sym, ◌∙◌}
 use Rattle.layout.specs.Parse.{key_fits}
 use Rattle.sheet.proofs.Tests.{if_none, if_failed, if_passed, key_before_law, key_after}
-use borrow.Author.Tests.{not-true, not-false}
 use Rattle.sheet.proofs.read_key.Goals as goal
 
 pub returns-then-key-last : goal.returns-then-key-last

@@ -1,7 +1,6 @@
 -- `sheet::read_kind` meets its contract.
 use native.Mathlib.Omega.{arith}
 use mathlib.Core.Path.{sym, ◌∙◌}
-use borrow.Author.Tests.{not-true, not-false}
 use Rattle.sheet.proofs.Tests.{if_none, if_failed, if_passed, kind_test, kind_large, kind_unnamed, kind_later, kind_first}
 use Rattle.sheet.proofs.read_kind.Goals as goal
 

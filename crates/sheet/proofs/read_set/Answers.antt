@@ -13,7 +13,7 @@ read_list-read-requires c = set_count _ _ _ _ _ (sym c.in-At.is ∙ c.read_head.
 pub returns-then-not-read : goal.returns-then-not-read
 returns-then-not-read c =
     c.no_set-then-not-read.ensures
-    ∙ set_no_list _ _ _ _ _ (sym c.in-At.is ∙ c.read_head.ensures) _ c.read_list-read.ensures c.if-not-read.true
+    ∙ set_no_list _ _ _ _ _ (sym c.in-At.is ∙ c.read_head.ensures) _ c.read_list-read.ensures (not-true _ c.if-not-read.true)
 
 pub returns : goal.returns
-returns c = set_made _ _ _ _ _ (sym c.in-At.is ∙ c.read_head.ensures) _ c.read_list-read.ensures c.if-not-read.false
+returns c = set_made _ _ _ _ _ (sym c.in-At.is ∙ c.read_head.ensures) _ c.read_list-read.ensures (not-false _ c.if-not-read.false)

@@ -1,4 +1,3 @@
-use Prim.Native.Nat.{◌-◌}
 use native.Mathlib.Omega.{arith}
 use mathlib.Core.Path.{ap}
 use lib.ListN.{length}
@@ -48,7 +47,7 @@ loop-i-preserved c =
     let at = c.loop-i in
     let h = c.loop-i-test.true in
     elim c.if-list-ne0.branch [
-        then-list-ne0 w ↦ omega (arith, at.invariant, size_sets t at.i t.count h w.if-list-ne0.true, w.3.ensures)
+      | then-list-ne0 w ↦ omega (arith, at.invariant, size_sets t at.i t.count h w.if-list-ne0.true, w.set_size-size.ensures)
       | else-list-ne0 w ↦ omega (arith, at.invariant, ap (λ ss. length (sheet_sets ss)) (sets_skip t at.i t.count h w.if-list-ne0.false))
     ]
 

@@ -7,7 +7,7 @@ use Rattle.lists.proofs.GrownLaws.{grown_first}
 use Rattle.reading.proofs.RowLaws.{row_from, row_there, row_more, row_full, append_fits, append_not}
 use borrow.Author.Rules.{rules}
 use Rattle.reading.proofs.rows.append.Goals as goal
-use Rattle.reading.proofs.rows.append.Goals.{else-not-stands_in, then-not-stands_in}
+use Rattle.reading.proofs.rows.append.Goals.{else-not-stands_in, then-not-stands_in+else-len-ge-MOST}
 
 pub loop-i-init : goal.loop-i-init
 loop-i-init c = (omega arith, search rules, refl, c.requires.2, c.requires.0, c.requires.1, grown_first _ _ _ _)
@@ -32,24 +32,24 @@ pub loop-i-preserved : goal.loop-i-preserved
 loop-i-preserved c =
     let l = c.loop-i in
     elim c.if-not-stands_in.branch [
-        then-not-stands_in w ↦ (
-      omega arith,
-      l.invariant.1,
-      l.invariant.2,
-      omega (arith, w.4, w.1.left),
-      ap length w.2 ∙ simp length-set l.invariant.4,
-      ap length w.3 ∙ simp length-set l.invariant.5,
-      row_from _ _ _ w.2 w.3 w.4 (row_more _ _ _ _ _ _ _ _ l.invariant.4 l.invariant.5 l.invariant.3 _ _ _ c.identifier-id.ensures c.kind-kind.ensures c.number-number.ensures _ c.stands_in.ensures (w.if-not-stands_in.true) c.loop-i-test.true w.1.left ∙ l.invariant.6),
-    )
+      | then-not-stands_in+else-len-ge-MOST w ↦ (
+        omega arith,
+        l.invariant.1,
+        l.invariant.2,
+        omega arith,
+        ap length w.numbers-is ∙ simp length-set l.invariant.4,
+        ap length w.kinds-is ∙ simp length-set l.invariant.5,
+        row_from _ _ _ w.numbers-is w.kinds-is w.len-is (row_more _ _ _ _ _ _ _ _ l.invariant.4 l.invariant.5 l.invariant.3 _ _ _ c.identifier-id.ensures c.kind-kind.ensures c.number-number.ensures _ c.stands_in.ensures (w.if-not-stands_in.true) c.loop-i-test.true w.if-len-ge-MOST.false ∙ l.invariant.6),
+      )
       | else-not-stands_in w ↦ (
-      omega arith,
-      l.invariant.1,
-      l.invariant.2,
-      omega (arith, w.3, l.invariant.3),
-      ap length w.1 ∙ l.invariant.4,
-      ap length w.2 ∙ l.invariant.5,
-      row_from _ _ _ w.1 w.2 w.3 (row_there _ _ _ _ _ _ _ _ l.invariant.4 l.invariant.5 l.invariant.3 _ _ _ c.identifier-id.ensures c.kind-kind.ensures c.number-number.ensures _ c.stands_in.ensures (w.if-not-stands_in.false) c.loop-i-test.true ∙ l.invariant.6),
-    )
+        omega arith,
+        l.invariant.1,
+        l.invariant.2,
+        omega arith,
+        ap length w.numbers-is ∙ l.invariant.4,
+        ap length w.kinds-is ∙ l.invariant.5,
+        row_from _ _ _ w.numbers-is w.kinds-is w.len-is (row_there _ _ _ _ _ _ _ _ l.invariant.4 l.invariant.5 l.invariant.3 _ _ _ c.identifier-id.ensures c.kind-kind.ensures c.number-number.ensures _ c.stands_in.ensures (w.if-not-stands_in.false) c.loop-i-test.true ∙ l.invariant.6),
+      )
     ]
 
 pub shape_of-numbers : goal.shape_of-numbers

@@ -13,8 +13,8 @@ loop-i-preserved c =
       omega arith,
       simp length-set l.invariant.1,
       simp length-set l.invariant.2,
-      copy_next _ _ _ c.requires.0 c.requires.2 l.to-numbers _ c.loop-i-test.true l.invariant.3,
-      copy_next _ _ _ c.requires.1 c.requires.3 l.to-kinds _ c.loop-i-test.true l.invariant.4,
+      copy_next _ _ _ c.requires.0 c.requires.2 l.to_numbers _ c.loop-i-test.true l.invariant.3,
+      copy_next _ _ _ c.requires.1 c.requires.3 l.to_kinds _ c.loop-i-test.true l.invariant.4,
     )
 
 pub shape_of-to_numbers : goal.shape_of-to_numbers
@@ -26,4 +26,4 @@ shape_of-to_kinds c = c.loop-i.invariant.2
 pub returns : goal.returns
 returns c =
     let l = c.loop-i in
-    (copy_end _ _ _ c.requires.0 c.requires.2 l.to-numbers _ c.loop-i-test.false l.invariant.0 l.invariant.3, copy_end _ _ _ c.requires.1 c.requires.3 l.to-kinds _ c.loop-i-test.false l.invariant.0 l.invariant.4)
+    (copy_end _ _ _ c.requires.0 c.requires.2 l.to_numbers _ c.loop-i-test.false l.invariant.0 l.invariant.3, copy_end _ _ _ c.requires.1 c.requires.3 l.to_kinds _ c.loop-i-test.false l.invariant.0 l.invariant.4)

@@ -8,8 +8,8 @@ use Rattle.reading.proofs.rows.copy_row.Given as goal
 
 abbrev pub invariant-loop-i : goal.invariant-loop-i
 invariant-loop-i l =
-    (l.i ≤ l.n) × (length to-numbers ≡ length to-numbers₀) × (length to-kinds ≡ length to-kinds₀)
-    × (to-numbers ≡ blend l.i (overwritten (take l.n l.numbers) to-numbers₀) to-numbers₀) × (to-kinds ≡ blend l.i (overwritten (take l.n l.kinds) to-kinds₀) to-kinds₀)
+    (l.i ≤ l.n) × (length l.to_numbers ≡ length l.initial.to_numbers) × (length l.to_kinds ≡ length l.initial.to_kinds)
+    × (l.to_numbers ≡ blend l.i (overwritten (take l.n l.numbers) l.initial.to_numbers) l.initial.to_numbers) × (l.to_kinds ≡ blend l.i (overwritten (take l.n l.kinds) l.initial.to_kinds) l.initial.to_kinds)
 
 abbrev pub decreases-loop-i : goal.decreases-loop-i
 decreases-loop-i l = l.n - l.i

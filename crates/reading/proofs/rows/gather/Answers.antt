@@ -8,33 +8,26 @@ use borrow.Author.Rules.{rules}
 use Rattle.reading.proofs.rows.gather.Goals as goal
 use Rattle.reading.proofs.rows.gather.Goals.{else-rows-p, then-rows-p}
 
--- the start, and that the rows are whole
-abbrev start : (c : goal.At-loop-p) → goal.Start
-start c = c
-
-whole : (c : goal.Start) → Whole c.args.numbers.now c.args.kinds.now c.args.rows
-whole c = record { numbers = c.requires.0; kinds = c.requires.1; lens = search rules; names = search rules; changed = search rules }
-
 pub loop-p-init : goal.loop-p-init
 loop-p-init c = record { within = omega arith; long = search (length_of_map, rules); front = refl; rest = λ q h. refl }
 
 pub list_of-requires : goal.list_of-requires
 list_of-requires c =
-    let p = c.loop-p.p in
-    let s = start c in (
-      part_long p _ (row_size_law p) c.loop-p-test.true s.args.numbers.now s.requires.0,
-      part_long p _ (row_size_law p) c.loop-p-test.true s.args.kinds.now s.requires.1,
+    let p = c.loop-p.p in (
+      part_long p _ (row_size_law p) c.loop-p-test.true c.args.numbers.now c.requires.0,
+      part_long p _ (row_size_law p) c.loop-p-test.true c.args.kinds.now c.requires.1,
     )
 
 pub loop-p-preserved : goal.loop-p-preserved
 loop-p-preserved c =
     let l = c.loop-p in
-    let s = start c in
-    let w = whole s in
+    let w : Whole c.args.numbers.now c.args.kinds.now c.args.rows = search rules in
     elim c.if-rows-p.branch [
-        then-rows-p x ↦ gathering_changed l.invariant (length_gathered _ _ _ w) c.loop-p-test.true _ (x.5.ensures ∙ sym (gathered_at _ _ _ w l.p _ (row_size_law l.p) c.loop-p-test.true)) _ x.6
-      | else-rows-p x ↦ gathering_same l.invariant (length_gathered _ _ _ w) c.loop-p-test.true (s.requires.2 l.p c.loop-p-test.true x.if-rows-p.false) _ x.1
+      | then-rows-p x ↦ gathering_changed l.invariant (length_gathered _ _ _ w) c.loop-p-test.true _ (x.list_of.ensures ∙ sym (gathered_at _ _ _ w l.p _ (row_size_law l.p) c.loop-p-test.true)) _ x.lists-is
+      | else-rows-p x ↦ gathering_same l.invariant (length_gathered _ _ _ w) c.loop-p-test.true (c.requires.2 l.p c.loop-p-test.true x.if-rows-p.false) _ x.lists-is
     ]
 
 pub returns : goal.returns
-returns c = gathering_end c.loop-p.invariant (length_gathered _ _ _ (whole (start c))) c.loop-p-test.false
+returns c =
+    let w : Whole c.args.numbers.now c.args.kinds.now c.args.rows = search rules in
+    gathering_end c.loop-p.invariant (length_gathered _ _ _ w) c.loop-p-test.false

@@ -26,12 +26,12 @@ loop-p-preserved c =
     let h = c.loop-p-test.true in
     let w = l.invariant.1 in
     let y = c.lay-row.new in
-    let ln : length y.1.0 ≡ most_ids = search rules in
-    let lk : length y.1.1.0 ≡ most_ids = search rules in (
+    let ln : length y.numbers ≡ most_ids = search rules in
+    let lk : length y.kinds ≡ most_ids = search rules in (
       omega arith,
-      record { numbers = splice_long l.p _ (row_size_law l.p) h l.numbers w.numbers y.1.0 ln; kinds = splice_long l.p _ (row_size_law l.p) h l.kinds w.kinds y.1.1.0 lk; lens = simp length-set w.lens; names = simp length-set w.names; changed = simp length-set w.changed; },
+      record { numbers = splice_long l.p _ (row_size_law l.p) h l.numbers w.numbers y.numbers ln; kinds = splice_long l.p _ (row_size_law l.p) h l.kinds w.kinds y.kinds lk; lens = simp length-set w.lens; names = simp length-set w.names; changed = simp length-set w.changed },
       l.invariant.2,
-      ap (take (l.p + 1)) (gathered_set l.numbers l.kinds l.rows w l.p _ (row_size_law l.p) h y.1.0 y.1.1.0 ln lk c.lay-row.result.len c.lay-row.result.named false)
+      ap (take (l.p + 1)) (gathered_set l.numbers l.kinds l.rows w l.p _ (row_size_law l.p) h y.numbers y.kinds ln lk c.lay-row.result.len c.lay-row.result.named false)
           ∙ next_list _ (map packed c.args.lists) l.p _ (packed past) (omega (arith, length_gathered _ _ _ w)) (omega (arith, length-map c.args.lists packed, l.invariant.2)) l.invariant.3
           (c.lay-row.ensures ∙ sym (get_d_map packed c.args.lists l.p (packed past) past (omega (arith, l.invariant.2)))),
     )
@@ -46,4 +46,4 @@ pub returns : goal.returns
 returns c =
     let l = c.loop-p in
     let e : l.p ≡ most_keys = omega arith in
-    record { whole = l.invariant.1; same = sym (take_all most_keys _ (omega (arith, length_gathered _ _ _ l.invariant.1))) ∙ ap (λ (n : ℕ). take n (gathered l.numbers l.kinds l.rows)) (sym e) ∙ l.invariant.3 ∙ ap (λ (n : ℕ). take n (map packed c.args.lists)) e ∙ take_all most_keys _ (omega (arith, length-map c.args.lists packed, l.invariant.2)); }
+    record { whole = l.invariant.1; same = sym (take_all most_keys _ (omega (arith, length_gathered _ _ _ l.invariant.1))) ∙ ap (λ (n : ℕ). take n (gathered l.numbers l.kinds l.rows)) (sym e) ∙ l.invariant.3 ∙ ap (λ (n : ℕ). take n (map packed c.args.lists)) e ∙ take_all most_keys _ (omega (arith, length-map c.args.lists packed, l.invariant.2)) }
