@@ -14,19 +14,32 @@ use Rattle.text.specs.Confirmed.{confirmed_listing}
 use Rattle.columns.specs.Columns.{columns}
 use Rattle.screen.specs.Screen.{totals_text}
 use Rattle.outputs.specs.Output.{output_of}
-use Rattle.reading.proofs.read_block as read_block_law
-use Rattle.reading.proofs.read_recording as read-recording
+use Rattle.reading.specs.contracts.read_block.{ended as read_block_ended}
+use Rattle.reading.proofs.read_block as read_block
+use Rattle.reading.specs.contracts.read_recording.{ended as read_recording_ended}
+use Rattle.reading.proofs.read_recording as read_recording
+use Rattle.table.specs.contracts.forget_key.{ended as forget_key_ended}
 use Rattle.table.proofs.forget_key as forget_key
-use Rattle.table.proofs.copy_out as copy-out
+use Rattle.table.specs.contracts.copy_out.{ended as copy_out_ended}
+use Rattle.table.proofs.copy_out as copy_out
+use Rattle.table.specs.contracts.Table.totals.{ended as totals_ended}
 use Rattle.table.proofs.Table.totals as totals
-use Rattle.text.proofs.write_listing as write-listing
-use Rattle.text.proofs.write_confirmed as write-confirmed
-use Rattle.columns.proofs.write_columns as write-columns
-use Rattle.screen.proofs.write_totals as write-totals
-use Rattle.sheet.proofs.write_sheet as write-sheet
-use Rattle.air.proofs.write_air as write-air
-use Rattle.outputs.proofs.write_output as write-output
-use Rattle.sheet.proofs.load_sheet as load-sheet
+use Rattle.text.specs.contracts.write_listing.{ended as write_listing_ended}
+use Rattle.text.proofs.write_listing as write_listing
+use Rattle.text.specs.contracts.write_confirmed.{ended as write_confirmed_ended}
+use Rattle.text.proofs.write_confirmed as write_confirmed
+use Rattle.columns.specs.contracts.write_columns.{ended as write_columns_ended}
+use Rattle.columns.proofs.write_columns as write_columns
+use Rattle.screen.specs.contracts.write_totals.{ended as write_totals_ended}
+use Rattle.screen.proofs.write_totals as write_totals
+use Rattle.sheet.specs.contracts.write_sheet.{ended as write_sheet_ended}
+use Rattle.sheet.proofs.write_sheet as write_sheet
+use Rattle.air.specs.contracts.write_air.{ended as write_air_ended}
+use Rattle.air.proofs.write_air as write_air
+use Rattle.outputs.specs.contracts.write_output.{ended as write_output_ended}
+use Rattle.outputs.proofs.write_output as write_output
+use Rattle.sheet.specs.contracts.load_sheet.{ended as load_sheet_ended}
+use Rattle.sheet.proofs.load_sheet as load_sheet
 use Rattle.promises.proofs.Proved as Proved
 use Rattle.promises.proofs.Proved.{Promised, promised_so}
 use Rattle.promises.proofs.Answers.{BlockAnswer, RecordingAnswer, ForgetAnswer, CopyAnswer, CountAnswer, read_block_answers, read_recording_answers, forget_key_answers, copy_out_answers, totals_answers}
@@ -41,51 +54,51 @@ pub use Rattle.promises.proofs.Single.{read_block_single, read_recording_single,
 
 -- every call ends with an answer of the list
 module _ {M : Type 1} where
-  pub read_block_ends : Promised read_block_law.ended read_block_law.Symbol.routine (λ κs a r z. BlockAnswer a.0 a.1.0.now r) M
-  read_block_ends = promised_so read_block_law.ended _ _ _ (λ κs a r z. read_block_answers a.0 a.1.0.now r) Proved.read_block_proved
+  pub read_block_ends : Promised read_block_ended read_block.Symbol.code read_block.Symbol.name (λ κs a r z. BlockAnswer a.0 a.1.0.now r) M
+  read_block_ends = promised_so read_block_ended _ _ _ _ (λ κs a r z. read_block_answers a.0 a.1.0.now r) Proved.read_block_proved
 
-  pub read_recording_ends : Promised read-recording.ended read-recording.Symbol.routine (λ κs a r z. RecordingAnswer a.0 a.1.0.now r) M
-  read_recording_ends = promised_so read-recording.ended _ _ _ (λ κs a r z. read_recording_answers a.0 a.1.0.now r) Proved.read_recording_proved
+  pub read_recording_ends : Promised read_recording_ended read_recording.Symbol.code read_recording.Symbol.name (λ κs a r z. RecordingAnswer a.0 a.1.0.now r) M
+  read_recording_ends = promised_so read_recording_ended _ _ _ _ (λ κs a r z. read_recording_answers a.0 a.1.0.now r) Proved.read_recording_proved
 
-  pub forget_key_ends : Promised forget_key.ended forget_key.Symbol.routine (λ κs a r z. ForgetAnswer a.0 a.1.0 r) M
-  forget_key_ends = promised_so forget_key.ended _ _ _ (λ κs a r z. forget_key_answers a.0 a.1.0 r) Proved.forget_key_proved
+  pub forget_key_ends : Promised forget_key_ended forget_key.Symbol.code forget_key.Symbol.name (λ κs a r z. ForgetAnswer a.0 a.1.0 r) M
+  forget_key_ends = promised_so forget_key_ended _ _ _ _ (λ κs a r z. forget_key_answers a.0 a.1.0 r) Proved.forget_key_proved
 
   -- both buffers before, the answer, both buffers after
-  pub copy_out_ends : Promised copy-out.ended copy-out.Symbol.routine
+  pub copy_out_ends : Promised copy_out_ended copy_out.Symbol.code copy_out.Symbol.name
       (λ κs a r z. CopyAnswer a.0 a.1.0 a.1.1.0.now a.1.1.1.0.now r z.1.1.0.now z.1.1.1.0.now) M
   copy_out_ends =
-      promised_so copy-out.ended _ _ _
+      promised_so copy_out_ended _ _ _ _
       (λ κs a r z. copy_out_answers a.0 a.1.0 a.1.1.0.now a.1.1.1.0.now r z.1.1.0.now z.1.1.1.0.now) Proved.copy_out_proved
 
-  pub totals_ends : Promised totals.ended totals.Symbol.routine (λ κs a r z. CountAnswer a.0 r) M
-  totals_ends = promised_so totals.ended _ _ _ (λ κs a r z. totals_answers a.0 r) Proved.totals_proved
+  pub totals_ends : Promised totals_ended totals.Symbol.code totals.Symbol.name (λ κs a r z. CountAnswer a.0 r) M
+  totals_ends = promised_so totals_ended _ _ _ _ (λ κs a r z. totals_answers a.0 r) Proved.totals_proved
 
   -- the buffer before, the answer, the buffer after
-  pub write_listing_ends : Promised write-listing.ended write-listing.Symbol.routine
+  pub write_listing_ends : Promised write_listing_ended write_listing.Symbol.code write_listing.Symbol.name
       (λ κs a r z. WriteAnswer (λ c. listing c a.1.0) a.0 a.1.1.0.now r z.1.1.0.now) M
-  write_listing_ends = promised_so write-listing.ended _ _ _ (λ κs a r z. write_listing_answers a.0 a.1.0 a.1.1.0.now r z.1.1.0.now) Proved.write_listing_proved
+  write_listing_ends = promised_so write_listing_ended _ _ _ _ (λ κs a r z. write_listing_answers a.0 a.1.0 a.1.1.0.now r z.1.1.0.now) Proved.write_listing_proved
 
-  pub write_confirmed_ends : Promised write-confirmed.ended write-confirmed.Symbol.routine
+  pub write_confirmed_ends : Promised write_confirmed_ended write_confirmed.Symbol.code write_confirmed.Symbol.name
       (λ κs a r z. WriteAnswer (λ c. confirmed_listing c a.1.0) a.0 a.1.1.0.now r z.1.1.0.now) M
-  write_confirmed_ends = promised_so write-confirmed.ended _ _ _ (λ κs a r z. write_confirmed_answers a.0 a.1.0 a.1.1.0.now r z.1.1.0.now) Proved.write_confirmed_proved
+  write_confirmed_ends = promised_so write_confirmed_ended _ _ _ _ (λ κs a r z. write_confirmed_answers a.0 a.1.0 a.1.1.0.now r z.1.1.0.now) Proved.write_confirmed_proved
 
-  pub write_columns_ends : Promised write-columns.ended write-columns.Symbol.routine
+  pub write_columns_ends : Promised write_columns_ended write_columns.Symbol.code write_columns.Symbol.name
       (λ κs a r z. WriteAnswer (columns a.1.0 a.1.1.0) a.0 a.1.1.1.0.now r z.1.1.1.0.now) M
   write_columns_ends =
-      promised_so write-columns.ended _ _ _ (λ κs a r z. write_columns_answers a.0 a.1.0 a.1.1.0 a.1.1.1.0.now r z.1.1.1.0.now) Proved.write_columns_proved
+      promised_so write_columns_ended _ _ _ _ (λ κs a r z. write_columns_answers a.0 a.1.0 a.1.1.0 a.1.1.1.0.now r z.1.1.1.0.now) Proved.write_columns_proved
 
-  pub write_totals_ends : Promised write-totals.ended write-totals.Symbol.routine (λ κs a r z. WriteAnswer totals_text a.0 a.1.0.now r z.1.0.now) M
-  write_totals_ends = promised_so write-totals.ended _ _ _ (λ κs a r z. write_totals_answers a.0 a.1.0.now r z.1.0.now) Proved.write_totals_proved
+  pub write_totals_ends : Promised write_totals_ended write_totals.Symbol.code write_totals.Symbol.name (λ κs a r z. WriteAnswer totals_text a.0 a.1.0.now r z.1.0.now) M
+  write_totals_ends = promised_so write_totals_ended _ _ _ _ (λ κs a r z. write_totals_answers a.0 a.1.0.now r z.1.0.now) Proved.write_totals_proved
 
-  pub write_sheet_ends : Promised write-sheet.ended write-sheet.Symbol.routine (λ κs a r z. WriteAnswer sheet a.0 a.1.0.now r z.1.0.now) M
-  write_sheet_ends = promised_so write-sheet.ended _ _ _ (λ κs a r z. write_sheet_answers a.0 a.1.0.now r z.1.0.now) Proved.write_sheet_proved
+  pub write_sheet_ends : Promised write_sheet_ended write_sheet.Symbol.code write_sheet.Symbol.name (λ κs a r z. WriteAnswer sheet a.0 a.1.0.now r z.1.0.now) M
+  write_sheet_ends = promised_so write_sheet_ended _ _ _ _ (λ κs a r z. write_sheet_answers a.0 a.1.0.now r z.1.0.now) Proved.write_sheet_proved
 
-  pub write_air_ends : Promised write-air.ended write-air.Symbol.routine (λ κs a r z. WriteAnswer air a.0 a.1.0.now r z.1.0.now) M
-  write_air_ends = promised_so write-air.ended _ _ _ (λ κs a r z. write_air_answers a.0 a.1.0.now r z.1.0.now) Proved.write_air_proved
+  pub write_air_ends : Promised write_air_ended write_air.Symbol.code write_air.Symbol.name (λ κs a r z. WriteAnswer air a.0 a.1.0.now r z.1.0.now) M
+  write_air_ends = promised_so write_air_ended _ _ _ _ (λ κs a r z. write_air_answers a.0 a.1.0.now r z.1.0.now) Proved.write_air_proved
 
-  pub write_output_ends : Promised write-output.ended write-output.Symbol.routine
+  pub write_output_ends : Promised write_output_ended write_output.Symbol.code write_output.Symbol.name
       (λ κs a r z. WriteAnswer (output_of a.0 a.1.1.0) a.1.0 a.1.1.1.0.now r z.1.1.1.0.now) M
-  write_output_ends = promised_so write-output.ended _ _ _ (λ κs a r z. write_output_answers a.0 a.1.0 a.1.1.0 a.1.1.1.0.now r z.1.1.1.0.now) Proved.write_output_proved
+  write_output_ends = promised_so write_output_ended _ _ _ _ (λ κs a r z. write_output_answers a.0 a.1.0 a.1.1.0 a.1.1.1.0.now r z.1.1.1.0.now) Proved.write_output_proved
 
-  pub load_sheet_ends : Promised load-sheet.ended load-sheet.Symbol.routine (λ κs a r z. LoadAnswer a.0.now r) M
-  load_sheet_ends = promised_so load-sheet.ended _ _ _ (λ κs a r z. load_sheet_answers a.0.now r) Proved.load_sheet_proved
+  pub load_sheet_ends : Promised load_sheet_ended load_sheet.Symbol.code load_sheet.Symbol.name (λ κs a r z. LoadAnswer a.0.now r) M
+  load_sheet_ends = promised_so load_sheet_ended _ _ _ _ (λ κs a r z. load_sheet_answers a.0.now r) Proved.load_sheet_proved

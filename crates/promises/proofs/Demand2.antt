@@ -80,8 +80,8 @@ calls_exist c [] s b = rw s.1 ended
 calls_exist {t} c (block fib ∷ os) s b =
     let x : ReadsBlock t fib (run_as (read_block c fib)) = stored c s.0 s.1 refl in
     let one = read_call c fib (run_as (read_block c fib)) s b.0 x in
-    rw (← one.1) (reads (run_as (read_block c fib)) x (calls_exist (after_one c (block fib)) os one.0 b.1))
+    rw (← one.1) (reads (run_as (read_block c fib)) x (calls_exist {t = (run_as (read_block c fib)).table} (after_one c (block fib)) os one.0 b.1))
 calls_exist {t} c (forgetting k ∷ os) s b =
     let x : Forgets t k (forgotten_as k c) = stored c s.0 s.1 refl in
     let one = forget_call c k (forgotten_as k c) s x in
-    rw (← one.1) (forgets (forgotten_as k c) x (calls_exist (after_one c (forgetting k)) os one.0 b.1))
+    rw (← one.1) (forgets (forgotten_as k c) x (calls_exist {t = (forgotten_as k c).table} (after_one c (forgetting k)) os one.0 b.1))

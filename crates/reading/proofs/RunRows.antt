@@ -43,7 +43,7 @@ use Rattle.reading.specs.Gathered.{row_list, gathered, sets_of, packed, no_rows,
 use Rattle.reading.specs.Runs.{no_reply, reply_to, reply_with, Runs}
 use Rattle.sets.proofs.StoreLaws.{set_at}
 use Rattle.reading.proofs.RunLaws.{Going, going_first, going_end}
-use Rattle.reading.proofs.Turns.{Fits', fits_now, place_short, body_of, turn_held, turn_new, turn_same, turn_taken, turn_refused}
+use Rattle.reading.proofs.Turns.{fits_now, place_short, body_of, turn_held, turn_new, turn_same, turn_taken, turn_refused}
 use Rattle.reading.proofs.RowLaws.{row_of}
 use Rattle.reading.proofs.GatheredLaws.{length_gathered, gathered_at, gathered_set, gathered_none, unchanged_laid, unchanged_set, unchanged_none, splice_long}
 
@@ -140,14 +140,11 @@ module _ {bytes : List ℕ} {t₀ : Table} {l : Sets} {n : Totals} {m : ℕ} {on
   abbrev u : Table
   u = table_of t n m
 
-  -- the present field stands within its block, and what the code reads there is its body
-  pub field_fits : i < spots.count → Fits' bytes reply spots from i
-  field_fits = fits_now bytes t₀ u reply spots from at i K.going
-
+  -- what the code reads at the present field is its body
   pub field_body : i < spots.count
       → take (from + (get_or spots.spots i no_spot).end - (from + (get_or spots.spots i no_spot).start)) (drop (from + (get_or spots.spots i no_spot).start) bytes)
       ≡ body_at (take 32 (drop from bytes)) (get_or spots.spots i no_spot)
-  field_body lt = let w = field_fits lt in body_of bytes from (get_or spots.spots i no_spot) w.ordered w.inside
+  field_body lt = let w = fits_now bytes t₀ u reply spots from at i K.going lt in body_of bytes from (get_or spots.spots i no_spot) w.ordered w.inside
 
   -- a held key has one of 32 places
   pub held_place : (p key : ℕ) → (ltb p l.count && eqb (get_or l.keys p 0) key) ≡ true → p < most_keys

@@ -5,7 +5,6 @@ use native.Mathlib.Omega.{arith}
 use mathlib.Core.Path.{◌≡◌, refl, sym, ap, ap₂, ◌∙◌, subst}
 use mathlib.Core.Bool.{Bool, true, false, not, cond, ◌&&◌, true≢false}
 use mathlib.Core.List.{List, [], ◌∷◌, map}
-use mathlib.Core.Option.{none}
 use lib.ListN.{length-take, length-drop, length, get_or, set, take, drop, replicate}
 use lib.Dec.{ltb, eqb}
 use lib.Seq.{take-take, drop-drop}

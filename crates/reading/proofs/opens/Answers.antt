@@ -1,6 +1,5 @@
 -- `reading::opens` meets its contract: the definition's tests are the code's.
 use mathlib.Core.Path.{sym, ◌∙◌}
-use borrow.Author.Tests.{not-true, not-false}
 use Rattle.reading.specs.Steps.{opens_in}
 use Rattle.reading.proofs.opens.Goals as goal
 

@@ -1,6 +1,5 @@
 -- `reading::read_block` meets its contract: the table's own test, the block's length, and one block of a run.
 use mathlib.Core.Path.{◌∙◌}
-use borrow.Author.Tests.{not-true, not-false}
 use Rattle.rules.specs.declared.Outcome.TheVariants.{WrongTable}
 use Rattle.table.specs.Stored.{stored}
 use Rattle.table.proofs.GivenLaws.{given_wrong, given_right}

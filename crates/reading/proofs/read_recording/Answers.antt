@@ -1,6 +1,5 @@
 -- `reading::read_recording` meets its contract: the table's own test, and a run over the recording.
 use mathlib.Core.Path.{refl}
-use borrow.Author.Tests.{not-true, not-false}
 use Rattle.table.specs.Stored.{stored}
 use Rattle.table.proofs.GivenLaws.{given_wrong}
 use Rattle.reading.specs.Runs.{Runs, unrecorded}

@@ -4,7 +4,7 @@ use Rattle.block.proofs.Meaning.{says}
 use Rattle.sets.specs.declared.Sets.{Sets}
 use Rattle.table.specs.Stored.{table_of}
 use Rattle.reading.proofs.GatheredLaws.{row_size_law, part_long}
-use Rattle.reading.proofs.RunRows.{first_table, kept_first, field_fits, field_body, held_place, draft_short, kept_held, kept_new, kept_same, kept_taken, kept_refused, kept_end}
+use Rattle.reading.proofs.RunRows.{first_table, kept_first, field_body, held_place, draft_short, kept_held, kept_new, kept_same, kept_taken, kept_refused, kept_end}
 use Rattle.reading.proofs.Turns.{block_part, judged_few}
 use Rattle.reading.proofs.run_blocks.Goals as goal
 

@@ -1,6 +1,5 @@
 -- `reading::unheld_note` meets its contract: the definition's tests are the code's.
 use mathlib.Core.Path.{sym, ◌∙◌}
-use borrow.Author.Tests.{not-true, not-false}
 use Rattle.reading.specs.Steps.{unheld_note}
 use Rattle.reading.proofs.unheld_note.Goals as goal
 

@@ -1,4 +1,3 @@
-use Prim.Native.Nat.{◌-◌}
 use native.Mathlib.Omega.{arith}
 use lib.ListN.{length-set}
 use Rattle.table.proofs.Copies.{copy_first, copy_next, copy_end}
@@ -16,12 +15,6 @@ loop-i-preserved c =
       copy_next _ _ _ c.requires.0 c.requires.2 l.to_numbers _ c.loop-i-test.true l.invariant.3,
       copy_next _ _ _ c.requires.1 c.requires.3 l.to_kinds _ c.loop-i-test.true l.invariant.4,
     )
-
-pub shape_of-to_numbers : goal.shape_of-to_numbers
-shape_of-to_numbers c = c.loop-i.invariant.1
-
-pub shape_of-to_kinds : goal.shape_of-to_kinds
-shape_of-to_kinds c = c.loop-i.invariant.2
 
 pub returns : goal.returns
 returns c =

@@ -1,6 +1,5 @@
 -- `rows::on_held` meets its contract, case by case.
 use mathlib.Core.Path.{sym, ◌∙◌}
-use borrow.Author.Tests.{not-true, not-false}
 use Rattle.reading.proofs.HeldRows.{row_state, row_none, row_added, row_long, row_opened, row_shown}
 use Rattle.reading.proofs.rows.on_held.Goals as goal
 

@@ -1,4 +1,4 @@
-use Prim.Native.Nat.{ℕ, ◌+◌, ◌-◌}
+use Prim.Native.Nat.{ℕ, ◌+◌}
 use native.Mathlib.Omega.{arith}
 use mathlib.Core.Path.{◌≡◌, refl, sym, ap, ◌∙◌}
 use mathlib.Core.Bool.{false}
@@ -35,12 +35,6 @@ loop-p-preserved c =
           ∙ next_list _ (map packed c.args.lists) l.p _ (packed past) (omega (arith, length_gathered _ _ _ w)) (omega (arith, length-map c.args.lists packed, l.invariant.2)) l.invariant.3
           (c.lay-row.ensures ∙ sym (get_d_map packed c.args.lists l.p (packed past) past (omega (arith, l.invariant.2)))),
     )
-
-pub shape_of-numbers : goal.shape_of-numbers
-shape_of-numbers c = omega (arith, c.loop-p.invariant.1.numbers, c.requires.0)
-
-pub shape_of-kinds : goal.shape_of-kinds
-shape_of-kinds c = omega (arith, c.loop-p.invariant.1.kinds, c.requires.1)
 
 pub returns : goal.returns
 returns c =
