@@ -1,5 +1,5 @@
 -- The listing (document 01, example 16): the text that the listing program prints, as its bytes.
-use Rattle.std.specs.Prelude.{ℕ, zero, suc, ◌+◌, ◌*◌, ◌/◌, ◌%◌, ◌^◌, Bool, true, false, not, cond, ◌&&◌, List, [], ◌∷◌, ◌++◌, length, ltb, eqb}
+use Rattle.std.specs.Prelude.{ℕ, ◌*◌, ◌/◌, ◌%◌, Bool, true, false, cond, List, [], ◌∷◌, ◌++◌, length, eqb}
 use Rattle.rules.specs.Field.{Pair, dab, rds, drm}
 use Rattle.rules.specs.Collecting.{Content, Shown, shown_sets, key_width}
 use Rattle.lists.specs.Kinds.{is_dead}

@@ -3,7 +3,6 @@ use Prim.Native.Nat.{◌^◌, ◌<◌}
 use native.Mathlib.Omega.{arith}
 use mathlib.Core.Path.{◌≡◌, sym}
 use mathlib.Core.Bool.{true, false}
-use borrow.Author.Tests.{not-true, not-false}
 use Rattle.columns.specs.Columns.{number_if, end_text, number_text}
 use Rattle.columns.proofs.Lines.{narrow_number, length_end_sheet, length_end_eyes}
 use borrow.Author.Rules.{rules}

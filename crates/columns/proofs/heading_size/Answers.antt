@@ -2,7 +2,6 @@
 use native.Mathlib.Omega.{arith}
 use mathlib.Core.Path.{◌≡◌}
 use mathlib.Core.Bool.{true, false}
-use borrow.Author.Tests.{not-true, not-false}
 use Rattle.columns.specs.Columns.{filled, gap, cells_text, end_text, rule_text, names_text, last_name, heading_text}
 use Rattle.columns.proofs.Lines.{line_most, length_heading}
 use Rattle.columns.proofs.heading_size.Goals as goal

@@ -3,7 +3,6 @@ use Prim.Native.Nat.{◌-◌}
 use native.Mathlib.Omega.{arith}
 use mathlib.Core.Path.{◌≡◌}
 use mathlib.Core.Bool.{true, false}
-use borrow.Author.Tests.{not-true, not-false}
 use Rattle.out.proofs.Runs.{puts_as, puts_then}
 use Rattle.columns.specs.Columns.{cell_text}
 use Rattle.columns.specs.Cells.{cell_of}

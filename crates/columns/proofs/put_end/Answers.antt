@@ -5,7 +5,6 @@ use mathlib.Core.Path.{◌≡◌, ap, ◌∙◌}
 use mathlib.Core.Bool.{true, false, cond}
 use mathlib.Core.List.{[], ◌++◌}
 use lib.ListN.{length, replicate}
-use borrow.Author.Tests.{not-true, not-false}
 use Rattle.out.specs.Text.{decimal}
 use Rattle.out.proofs.Runs.{puts_as, puts_then}
 use Rattle.columns.specs.Columns.{number_if, end_text, number_text}

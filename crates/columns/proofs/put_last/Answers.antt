@@ -1,7 +1,6 @@
 -- `columns::put_last` meets its contract: the end of the line, or the bytes of each form.
 use mathlib.Core.Path.{◌≡◌}
 use mathlib.Core.Bool.{true, false}
-use borrow.Author.Tests.{not-true, not-false}
 use Rattle.out.proofs.Runs.{puts_as}
 use Rattle.columns.specs.Columns.{filled, gap, end_text, last_name}
 use Rattle.columns.proofs.put_last.Goals as goal

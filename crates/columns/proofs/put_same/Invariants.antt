@@ -1,5 +1,4 @@
 -- `columns::put_same` meets its contract: the byte as often as is left is what is left to write.
-use Prim.Native.Nat.{◌-◌}
 use lib.ListN.{replicate}
 use Rattle.out.proofs.Runs.{Going}
 use Rattle.columns.proofs.put_same.Given as goal

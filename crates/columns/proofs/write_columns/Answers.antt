@@ -2,7 +2,6 @@
 -- text follows the heading.
 use native.Mathlib.Omega.{arith}
 use mathlib.Core.Path.{refl}
-use borrow.Author.Tests.{not-true, not-false}
 use Rattle.table.proofs.GivenLaws.{sets_are, given_wrong, given_right, tested_short}
 use Rattle.out.specs.Answer.{written_as}
 use Rattle.out.proofs.Runs.{puts_as, puts_then}

@@ -1,7 +1,5 @@
-use Prim.Native.Nat.{◌-◌}
 use native.Mathlib.Omega.{arith}
 use mathlib.Core.Path.{refl, sym, ◌∙◌}
-use borrow.Author.Tests.{not-true, not-false}
 use Rattle.lists.proofs.Pairs.{pairs_next, pairs_not_number, pairs_not_kind, pairs_end}
 use borrow.Author.Rules.{rules}
 use Rattle.lists.proofs.pairs_meet.Goals as goal

@@ -1,4 +1,3 @@
-use Prim.Native.Nat.{◌-◌}
 use Rattle.lists.proofs.Pairs.{zeros_next, zeros_not, zeros_end}
 use Rattle.lists.proofs.zeros_u32.Goals as goal
 use Rattle.lists.proofs.zeros_u32.Goals.{else-numbers-i-ne0, then-numbers-i-ne0}

@@ -1,4 +1,3 @@
-use Prim.Native.Nat.{◌-◌}
 use Rattle.lists.proofs.Pairs.{zeros_next, zeros_not, zeros_end}
 use Rattle.lists.proofs.zeros_u8.Goals as goal
 use Rattle.lists.proofs.zeros_u8.Goals.{else-bytes-i-ne0, then-bytes-i-ne0}

@@ -1,5 +1,4 @@
 -- `out::put_hex` meets its contract: the low digits are what is left to write.
-use Prim.Native.Nat.{◌-◌}
 use Rattle.out.specs.Text.{hex_text}
 use Rattle.out.proofs.Runs.{Going}
 use Rattle.out.proofs.put_hex.Given as goal

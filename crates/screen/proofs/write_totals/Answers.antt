@@ -2,7 +2,6 @@
 use native.Mathlib.Omega.{arith}
 use mathlib.Core.Path.{◌≡◌, refl, ap}
 use lib.ListN.{length}
-use borrow.Author.Tests.{not-true, not-false}
 use Rattle.rules.specs.Collecting.{Content}
 use Rattle.table.specs.declared.Table.{Table}
 use Rattle.table.specs.Stored.{store_table}

@@ -1,4 +1,3 @@
-use Prim.Native.Nat.{◌-◌}
 use Rattle.sets.proofs.Loops.{off_next, off_not, off_end}
 use Rattle.sets.proofs.all_off.Goals as goal
 

@@ -1,7 +1,5 @@
-use Prim.Native.Nat.{◌-◌}
 use mathlib.Core.Path.{refl, sym, ◌∙◌}
 use Rattle.sets.proofs.Loops.{keys_next, keys_not_after, keys_not, keys_end}
-use borrow.Author.Tests.{not-true, not-false}
 use Rattle.sets.proofs.keys_meet.Goals as goal
 
 pub loop-i-init : goal.loop-i-init

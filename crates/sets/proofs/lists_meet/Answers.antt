@@ -1,8 +1,6 @@
-use Prim.Native.Nat.{◌-◌}
 use native.Mathlib.Omega.{arith}
 use mathlib.Core.Path.{refl}
 use borrow.Author.Count.{below_more}
-use borrow.Author.Tests.{not-true, not-false}
 use Rattle.lists.proofs.StoredLaws.{refuted, passed, fails}
 use Rattle.sets.specs.Stored.{EachHolds}
 use Rattle.sets.proofs.lists_meet.Goals as goal

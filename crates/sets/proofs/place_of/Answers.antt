@@ -1,4 +1,3 @@
-use Prim.Native.Nat.{◌-◌}
 use native.Mathlib.Nat.{zero-add}
 use Rattle.sets.proofs.Loops.{place_here, place_next, place_end}
 use Rattle.sets.proofs.place_of.Goals as goal

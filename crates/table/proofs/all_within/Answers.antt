@@ -1,4 +1,3 @@
-use Prim.Native.Nat.{◌-◌}
 use Rattle.table.proofs.Numbers.{within_next, within_not, within_end}
 use Rattle.table.proofs.all_within.Goals as goal
 

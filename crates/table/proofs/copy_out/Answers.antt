@@ -1,9 +1,6 @@
 -- `table::copy_out` meets its contract: the key stands at its place or nowhere, and what is handed out is the stored set.
-use Prim.Native.Nat.{◌<◌}
 use native.Mathlib.Omega.{arith}
 use mathlib.Core.Path.{sym, ◌∙◌}
-use borrow.Author.Tests.{not-true, not-false}
-use Rattle.rules.specs.Collecting.{most_keys}
 use Rattle.sets.proofs.PlaceLaws.{stands, stands_not}
 use Rattle.table.proofs.GivenLaws.{sets_are, given_wrong, given_right, stands_short, stands_shown, copies_missing, copies_held, not_copied_as}
 use Rattle.table.proofs.copy_out.Goals as goal

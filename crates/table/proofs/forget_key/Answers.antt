@@ -1,9 +1,6 @@
 -- `table::forget_key` meets its contract: the key stands at its place or nowhere, and shutting its place forgets it.
-use Prim.Native.Nat.{◌<◌}
 use native.Mathlib.Omega.{arith}
 use mathlib.Core.Path.{refl, sym, ◌∙◌}
-use borrow.Author.Tests.{not-true, not-false}
-use Rattle.rules.specs.Collecting.{most_keys}
 use Rattle.sets.proofs.PlaceLaws.{stands, stands_not}
 use Rattle.table.proofs.GivenLaws.{sets_are, given_wrong, given_right, stands_short, forgets_missing, forgets_held}
 use Rattle.table.proofs.forget_key.Goals as goal

@@ -1,4 +1,3 @@
-use Prim.Native.Nat.{◌-◌}
 use mathlib.Core.Path.{refl, sym, subst}
 use Rattle.out.proofs.Runs.{Going, going_start, going_on, going_as, going_end}
 use Rattle.sets.specs.Shown.{confirmed_sets_in}

@@ -1,16 +1,7 @@
 -- `text::write_lines` meets its contract: the sets in the arrays of a stored table are those of its content, and the lines
 -- follow each other.
-use Prim.Native.Nat.{◌+◌}
 use native.Mathlib.Omega.{arith}
-use mathlib.Core.Path.{◌≡◌, refl}
-use mathlib.Core.List.{◌++◌}
-use lib.ListN.{length}
-use borrow.Author.Tests.{not-true, not-false}
-use Rattle.rules.specs.Collecting.{Content}
-use Rattle.sets.specs.Shown.{confirmed_sets_in}
-use Rattle.text.specs.Listing.{tail_text}
-use Rattle.text.specs.Lines.{lines_in, first_text, listed}
-use Rattle.table.specs.Stored.{Given}
+use mathlib.Core.Path.{refl}
 use Rattle.table.proofs.GivenLaws.{given_wrong, given_right, tested_short}
 use Rattle.out.specs.Answer.{written_as}
 use Rattle.out.proofs.Runs.{puts_as, puts_then}

@@ -3,7 +3,6 @@
 use native.Mathlib.Omega.{arith}
 use mathlib.Core.Path.{◌≡◌, sym, ◌∙◌}
 use lib.ListN.{length}
-use borrow.Author.Tests.{not-true, not-false}
 use Rattle.rules.specs.Collecting.{most_ids}
 use Rattle.lists.proofs.StoredLaws.{holds_facts, holds_by, refuted, fails, tested_empty}
 use borrow.Author.Rules.{rules}

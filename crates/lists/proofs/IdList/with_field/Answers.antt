@@ -1,9 +1,7 @@
-use Prim.Native.Nat.{◌-◌}
 use native.Mathlib.Omega.{arith}
 use mathlib.Core.Path.{refl, sym, ◌∙◌}
 use mathlib.Core.Bool.{false}
 use mathlib.Core.Option.{none, some}
-use borrow.Author.Tests.{not-true, not-false}
 use Rattle.rules.specs.Field.{pair}
 use Rattle.lists.specs.Grown.{put, grown_as, renamed}
 use Rattle.lists.proofs.GrownLaws.{grown_there, grown_put, grown_full, grown_end, grown_first, grown_from, with_field_is}

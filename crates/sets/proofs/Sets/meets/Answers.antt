@@ -3,7 +3,6 @@
 use native.Mathlib.Omega.{arith}
 use mathlib.Core.Path.{◌≡◌, refl, sym, ◌∙◌}
 use lib.ListN.{length}
-use borrow.Author.Tests.{not-true, not-false}
 use Rattle.rules.specs.Collecting.{most_keys}
 use Rattle.rules.proofs.Basics.{length_of_map}
 use Rattle.lists.proofs.StoredLaws.{refuted, fails}

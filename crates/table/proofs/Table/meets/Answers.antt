@@ -1,8 +1,5 @@
 -- `table::Table::meets` meets its contract: the test of a table is that of its sets, then that of their numbers, and then that of its totals.
-use Prim.Native.Nat.{◌≤◌}
 use borrow.Author.Rules.{rules}
-use borrow.Author.Tests.{not-true, not-false}
-use Rattle.rules.specs.Collecting.{most_blocks}
 use Rattle.table.proofs.GivenLaws.{tested_wrong, tested_numbers, tested_totals}
 use Rattle.table.proofs.Table.meets.Goals as goal
 

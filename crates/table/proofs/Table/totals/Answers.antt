@@ -1,5 +1,4 @@
 -- `table::Table::totals` meets its contract: a table that meets the rules stores the sums.
-use borrow.Author.Tests.{not-true, not-false}
 use Rattle.rules.specs.declared.Outcome.TheVariants.{Done, WrongTable}
 use Rattle.table.proofs.GivenLaws.{given_wrong, given_right}
 use Rattle.table.proofs.Table.totals.Goals as goal

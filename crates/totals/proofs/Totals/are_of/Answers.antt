@@ -1,7 +1,7 @@
 -- `totals::Totals::are_of` meets its contract: the figures one by one.
-use mathlib.Core.Path.{◌≡◌, refl, ap, ◌∙◌}
+use mathlib.Core.Path.{refl, ap, ◌∙◌}
 use borrow.Author.Tests.{eq-eqb, ne_eqb}
-use Rattle.totals.specs.Kept.{totals_in, same_totals}
+use Rattle.totals.specs.Kept.{same_totals}
 use Rattle.totals.proofs.Totals.are_of.Goals as goal
 
 pub returns-then-self-sums : goal.returns-then-self-sums
