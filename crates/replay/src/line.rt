@@ -2,7 +2,6 @@
 // place of any line; what lies past the line's end counts as not there.
 ghost use Rattle.std.specs.Prelude.{◌≤◌, ◌≡◌, length};
 
-use check::same;
 use lists::least;
 use out::front;
 
@@ -23,7 +22,7 @@ pub(crate) fn place_of(line: &[u8], from: usize, to: usize, byte: u8) -> usize
 
 // Whether a line of this length is this word and nothing else.
 pub(crate) fn is_word(line: &[u8], len: usize, word: &[u8]) -> bool {
-    same(front(line, len), word)
+    front(line, len) == word
 }
 
 // The letter that a line of this length begins with, with nothing or a blank after it; 0 where there is
