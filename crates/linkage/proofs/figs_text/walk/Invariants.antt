@@ -1,5 +1,5 @@
 -- `figs_text::walk` ends: each turn lowers the number of steps that are left.
-use Rattle.std.proofs.Common.{⊤}
+use Rattle.std.specs.Prelude.{⊤}
 use Rattle.linkage.proofs.figs_text.walk.Given as goal
 
 abbrev pub invariant-loop-walked : goal.invariant-loop-walked
