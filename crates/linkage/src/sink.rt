@@ -49,11 +49,11 @@ impl<W: Write + Drop> Write for Sink<W> {
 pub(crate) fn write_whole<W: Write>(output: &mut W, bytes: &[u8]) -> bool {
     let mut done: usize = 0;
     while done < bytes.len() {
-        let more = output.write(&bytes[done..]).unwrap_or(0);
-        if more == 0 {
+        let taken = output.write(&bytes[done..]).unwrap_or(0);
+        if taken == 0 {
             return false;
         }
-        done += more;
+        done += taken;
     }
     true
 }
