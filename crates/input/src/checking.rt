@@ -8,9 +8,10 @@ ghost use Rattle.report.specs.Telling.{Tells};
 ghost use Rattle.input.specs.Reading.{Reading};
 ghost use Rattle.input.specs.Checking.{Checking, CheckedOn, Follows, Ends};
 
-use crate::{Received, next_blocks, nothing, with_chunk};
+use crate::{Received, next_blocks, nothing, with_chunk, write_whole};
 use out::front;
 use report::{Told, put_block, put_counts};
+use std::io::{Read, Write};
 
 // What is known of a recording that was checked: what it left, how many of its blocks are refused, and whether all that is to be
 // told of it was written.
@@ -50,10 +51,10 @@ fn put_blocks(out: &mut [u8], before: usize, bytes: &[u8]) -> Told
 }
 
 // Writes lines. Its caller shows that they are those of these blocks, which come after all that were read before.
-fn write_lines<'a>(output: i32, before: Received, chunk: &'a [u8], lines: &'a [u8]) -> bool
+fn write_lines<W: Write>(output: &mut W, before: Received, chunk: &[u8], lines: &[u8]) -> bool
     requires { Follows before chunk.now lines.now }
 {
-    io::write_all(output, lines)
+    write_whole(output, lines)
 }
 
 // How many of some blocks are refused, and whether their lines were written.
@@ -64,7 +65,7 @@ struct Spoken {
 }
 
 // Tells the refused ones of at most 1,024 blocks, which come after all that were read before.
-fn tell_blocks(output: i32, before: Received, chunk: &[u8]) -> Spoken
+fn tell_blocks<W: Write>(output: &mut W, before: Received, chunk: &[u8]) -> Spoken
     requires reading { Reading before }
     requires size_value { before.size % 32 ≡ 0 }
     requires chunk_len_bound { length chunk.now ≤ 32768 }
@@ -81,14 +82,14 @@ fn tell_blocks(output: i32, before: Received, chunk: &[u8]) -> Spoken
 // ---- the counts
 
 // Writes the end of a report. Its caller shows that it is that of all that was read, to the input's end and with all lines written.
-fn write_end(output: i32, checked: Checked, text: &[u8]) -> bool
+fn write_end<W: Write>(output: &mut W, checked: Checked, text: &[u8]) -> bool
     requires { Ends checked text.now }
 {
-    io::write_all(output, text)
+    write_whole(output, text)
 }
 
 // The counts of what was checked to its end, written.
-fn tell_counts(output: i32, checked: Checked) -> bool
+fn tell_counts<W: Write>(output: &mut W, checked: Checked) -> bool
     requires checking { Checking checked }
     requires failed_value { (checked.received.failed ≡ false) × (checked.written ≡ true) }
 {
@@ -124,7 +125,7 @@ fn unchecked() -> CheckTurn
 }
 
 // The blocks that come next, told and read.
-fn check_on(input: i32, output: i32, before: Checked) -> CheckTurn
+fn check_on<R: Read, W: Write>(input: &mut R, output: &mut W, before: Checked) -> CheckTurn
     requires checking { Checking before }
     requires size_value { before.received.size % 32 ≡ 0 }
     requires size_bound { before.received.size + 32768 ≤ 9223372036854775808 }
@@ -147,9 +148,9 @@ fn check_on(input: i32, output: i32, before: Checked) -> CheckTurn
     }
 }
 
-// Reads an open file to its end as a recording, and writes its report to another as it goes; no counts where a read failed. An input
+// Reads to the end as a recording, and writes its report as it goes; no counts where a read failed. An input
 // of more than 2^48 turns counts as one that failed.
-pub fn check_recording(input: i32, output: i32) -> Checked
+pub fn check_recording<R: Read, W: Write>(input: &mut R, output: &mut W) -> Checked
     ensures { Checking result }
 {
     let mut turns: usize = 281474976710656;

@@ -1,15 +1,17 @@
-// What stands at the input of the programs: an open file read to its end as a recording, or as a sheet, in fixed memory.
+// What stands at the input of the programs: a reader read to its end as a recording, or as a sheet, in fixed memory.
 // No contract can say which bytes the system hands over. So each function says that there are bytes of which its answer is
 // the reading; and it tells the end of the input from a read that failed.
+#![tactic(auto)]
+
 ghost use Rattle.std.specs.Prelude.{◌≡◌, ◌+◌, ◌≤◌, ◌%◌, length};
-ghost use Rattle.io.specs.Counts.{IsPrefixLen};
+ghost use Rattle.input.specs.Counts.{IsPrefixLen};
 ghost use Rattle.input.specs.Reading.{good_in, Reading, ReadsMore, ReadOn, Loading};
 
 mod checking;
 
 pub use checking::{Checked, check_recording};
-use libc::STDERR_FILENO;
 use sheet::Loaded;
+use std::io::{Read, Write};
 use table::Table;
 
 // ---- bytes
@@ -23,18 +25,16 @@ pub struct Filled {
 }
 
 // Reads until the buffer is full, the input ends or a read fails; with `eager`, until whole blocks are there and no more.
-fn fill_up(input: i32, buffer: &mut [u8], eager: bool) -> Filled
+fn fill_up<R: Read>(input: &mut R, buffer: &mut [u8], eager: bool) -> Filled
     ensures { IsPrefixLen result.size buffer.new }
 {
     let mut n: usize = 0;
     while n < buffer.len() && !(eager && 0 < n && n % 32 == 0) {
-        let got = libc::read(input, &mut buffer[n..]);
-        let more = io::count(got, &buffer[n..]);
+        let got = input.read(&mut buffer[n..]);
+        let failed = got.is_err();
+        let more = got.unwrap_or(0);
         if more == 0 {
-            return Filled {
-                size: n,
-                failed: got < 0,
-            };
+            return Filled { size: n, failed };
         }
         n += more;
     }
@@ -45,7 +45,7 @@ fn fill_up(input: i32, buffer: &mut [u8], eager: bool) -> Filled
 }
 
 // Reads until the buffer is full, the input ends or a read fails.
-pub fn fill(input: i32, buffer: &mut [u8]) -> Filled
+pub fn fill<R: Read>(input: &mut R, buffer: &mut [u8]) -> Filled
     ensures { IsPrefixLen result.size buffer.new }
 {
     fill_up(input, buffer, false)
@@ -53,10 +53,24 @@ pub fn fill(input: i32, buffer: &mut [u8]) -> Filled
 
 // Reads the blocks that come next, as soon as they are there: where no read fails, the buffer then begins with whole blocks, or the
 // input has ended.
-pub fn next_blocks(input: i32, buffer: &mut [u8]) -> Filled
+pub fn next_blocks<R: Read>(input: &mut R, buffer: &mut [u8]) -> Filled
     ensures { IsPrefixLen result.size buffer.new }
 {
     fill_up(input, buffer, true)
+}
+
+// Writes all of some bytes and says so, or stops at the first write that takes nothing or fails, when some of them may have been
+// written.
+pub(crate) fn write_whole<W: Write>(output: &mut W, bytes: &[u8]) -> bool {
+    let mut done: usize = 0;
+    while done < bytes.len() {
+        let taken = output.write(&bytes[done..]).unwrap_or(0);
+        if taken == 0 {
+            return false;
+        }
+        done += taken;
+    }
+    true
 }
 
 // ---- a recording
@@ -145,7 +159,7 @@ pub(crate) fn with_chunk(before: Received, chunk: &[u8], failed: bool) -> Receiv
 
 // The next chunk of the input. A chunk has whole blocks and is filled before it is read, so that only the last one, which is
 // not full, can end inside a block.
-fn read_on(input: i32, before: Received) -> Turn
+fn read_on<R: Read>(input: &mut R, before: Received) -> Turn
     requires reading { Reading before }
     requires size_value { before.size % 32 ≡ 0 }
     requires size_bound { before.size + 32768 ≤ 9223372036854775808 }
@@ -161,14 +175,14 @@ fn read_on(input: i32, before: Received) -> Turn
     }
 }
 
-// Says on standard error how far the reading is, from eight mebibytes on and once in each, and clears that line at the end.
-fn tell_progress(size: usize, whole: usize, more: bool) {
+// Says how far the reading is, from eight mebibytes on and once in each, and clears that line at the end.
+fn tell_progress<W: Write>(progress: &mut W, size: usize, whole: usize, more: bool) {
     if size < 8388608 {
         return;
     }
     if !more {
-        io::write_all(
-            STDERR_FILENO,
+        write_whole(
+            progress,
             b"\r                                                            \r",
         );
         return;
@@ -182,13 +196,13 @@ fn tell_progress(size: usize, whole: usize, more: bool) {
     let c = out::put_bytes(&mut line, b, b" of ");
     let d = out::put_decimal(&mut line, c, whole);
     let e = out::put_bytes(&mut line, d, b" bytes read ");
-    io::write_all(STDERR_FILENO, out::front(&line, e));
+    write_whole(progress, out::front(&line, e));
 }
 
-// Reads an open file to its end as a recording. A proved loop has to end, and nothing says that an input does: so it counts
+// Reads to the end as a recording. A proved loop has to end, and nothing says that an input does: so it counts
 // its turns down, from 2^48 chunks of 32 KiB, and an input that is longer than that counts as one that failed.
-// Where `whole` is not 0, the bytes that are expected, it tells on standard error how far it is.
-pub fn receive(input: i32, whole: usize) -> Received
+// Where `whole` is not 0, the bytes that are expected, it tells `progress` how far it is.
+pub fn receive<R: Read, W: Write>(input: &mut R, whole: usize, progress: &mut W) -> Received
     ensures { Reading result }
 {
     let mut turns: usize = 281474976710656;
@@ -198,7 +212,7 @@ pub fn receive(input: i32, whole: usize) -> Received
         turn = read_on(input, before);
         turns -= 1;
         if whole > 0 {
-            tell_progress(turn.received.size, whole, turn.more);
+            tell_progress(progress, turn.received.size, whole, turn.more);
         }
     }
     let mut received = turn.received;
@@ -230,9 +244,9 @@ fn as_sheet(bytes: &[u8], failed: bool) -> Fetched
     }
 }
 
-// Reads an open file as a sheet. A sheet has at most 24,801 bytes: with room for one more, a longer input is refused as it
+// Reads to the end as a sheet. A sheet has at most 24,801 bytes: with room for one more, a longer input is refused as it
 // should be.
-pub fn receive_sheet(input: i32) -> Fetched
+pub fn receive_sheet<R: Read>(input: &mut R) -> Fetched
     ensures { Loading result }
 {
     let mut bytes = [0u8; 24802];

@@ -1,6 +1,7 @@
-// What the system says of an open file. This is the one place that lends a struct to C, which the borrow checker does not
-// cover: `facts_of` is proved by hand.
-use libc::types::{stat, timespec};
+// What the system says of an open file.
+use std::fs::Metadata;
+use std::io;
+use std::os::unix::fs::MetadataExt;
 
 // What is known of an open file: its kind and mode, whose it is, which file of which device, and its size. Where nothing could
 // be learned, `known` is false and the rest means nothing.
@@ -16,52 +17,36 @@ pub(crate) struct Facts {
     pub size: usize,
 }
 
-// Room for what the system says.
-fn blank() -> stat {
-    stat {
-        st_dev: 0,
-        st_ino: 0,
-        st_nlink: 0,
-        st_mode: 0,
-        st_uid: 0,
-        st_gid: 0,
-        __pad: 0,
-        st_rdev: 0,
-        st_size: 0,
-        st_blksize: 0,
-        st_blocks: 0,
-        st_atim: timespec {
-            tv_sec: 0,
-            tv_nsec: 0,
-        },
-        st_mtim: timespec {
-            tv_sec: 0,
-            tv_nsec: 0,
-        },
-        st_ctim: timespec {
-            tv_sec: 0,
-            tv_nsec: 0,
-        },
-        __unused: [0; 3],
+// Room for what the system says: nothing is known.
+pub(crate) fn blank() -> Facts {
+    Facts {
+        known: false,
+        kind: 0,
+        mode: 0,
+        owner: 0,
+        group: 0,
+        device: 0,
+        number: 0,
+        size: 0,
     }
 }
 
-// A number of the system's that counts something: nothing where it is negative.
-fn size_of(size: i64) -> usize {
-    if size > 0 { size as usize } else { 0 }
+// A number of the system's that counts something.
+fn size_of(size: u64) -> usize {
+    size as usize
 }
 
 // What was asked for, of what the system said.
-fn picked(answer: i32, said: stat) -> Facts {
+fn picked(said: &Metadata) -> Facts {
     Facts {
-        known: answer == 0,
-        kind: said.st_mode / 4096 % 16,
-        mode: said.st_mode % 4096,
-        owner: said.st_uid,
-        group: said.st_gid,
-        device: said.st_dev,
-        number: said.st_ino,
-        size: size_of(said.st_size),
+        known: true,
+        kind: said.mode() / 4096 % 16,
+        mode: said.mode() % 4096,
+        owner: said.uid(),
+        group: said.gid(),
+        device: said.dev(),
+        number: said.ino(),
+        size: size_of(said.size()),
     }
 }
 
@@ -89,9 +74,10 @@ impl Facts {
     }
 }
 
-// What is known of an open file.
-pub(crate) fn facts_of(fd: i32) -> Facts {
-    let mut said = blank();
-    let answer = libc::fstat(fd, &mut said);
-    picked(answer, said)
+// What is known of an open file, by what the system answered.
+pub(crate) fn facts_of(answer: io::Result<Metadata>) -> Facts {
+    match answer {
+        Ok(said) => picked(&said),
+        Err(_) => blank(),
+    }
 }

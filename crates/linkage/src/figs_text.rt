@@ -5,11 +5,12 @@
 // is proved by hand.
 ghost use Rattle.std.specs.Prelude.{◌≡◌, ◌+◌, ◌<◌, ◌≤◌, length};
 
+use crate::sink::write_whole;
 use figs::FigStep;
 use input::some_holds;
-use libc::STDOUT_FILENO;
 use out::{front, put, put_bytes, put_decimal};
 use reader::FigReader;
+use std::io::{Read, Write};
 
 // What a walk found so far: the type and the length of the body of each FIG, in order, how many FIGs, and whether it ended at a
 // wrong one; and how many steps may still be made.
@@ -130,8 +131,8 @@ fn put_block(text: &mut [u8], number: usize, fib: &[u8]) -> usize {
     put_figs(text, c, walk(fib))
 }
 
-// The line of the bytes left over, if there are any, to standard output.
-fn write_rest(rest: usize) -> bool {
+// The line of the bytes left over, if there are any, to the output.
+fn write_rest<W: Write>(output: &mut W, rest: usize) -> bool {
     if rest == 0 {
         return true;
     }
@@ -139,29 +140,29 @@ fn write_rest(rest: usize) -> bool {
     let a = put_bytes(&mut text, 0, b"rest ");
     let b = put_decimal(&mut text, a, rest);
     let c = put(&mut text, b, 10);
-    io::write_all(STDOUT_FILENO, front(&text, c))
+    write_whole(output, front(&text, c))
 }
 
-// The lines of a block to standard output: at most 39 bytes and 17 a FIG.
-fn write_block(number: usize, fib: &[u8]) -> bool {
+// The lines of a block to the output: at most 39 bytes and 17 a FIG.
+fn write_block<W: Write>(output: &mut W, number: usize, fib: &[u8]) -> bool {
     let mut text = [0u8; 640];
     let n = put_block(&mut text, number, fib);
-    io::write_all(STDOUT_FILENO, front(&text, n))
+    write_whole(output, front(&text, n))
 }
 
 // The lines of the whole blocks of a chunk, numbered from a number on, and of the bytes left over; whether all were written.
-fn write_chunk(number: usize, chunk: &[u8]) -> bool
+fn write_chunk<W: Write>(output: &mut W, number: usize, chunk: &[u8]) -> bool
     requires { number + length chunk.now < 18446744073709551616 }
 {
     let mut at: usize = 0;
     while 32 <= chunk.len() - at {
         let end = at + 32;
-        if !write_block(number + at / 32, &chunk[at..end]) {
+        if !write_block(output, number + at / 32, &chunk[at..end]) {
             return false;
         }
         at = end;
     }
-    write_rest(chunk.len() - at)
+    write_rest(output, chunk.len() - at)
 }
 
 // What came of listing: how many bytes were read, whether the check of some block held, whether the last read failed, whether
@@ -176,14 +177,14 @@ pub(crate) struct Listed {
 }
 
 // The next chunk, listed.
-fn list_chunk(input: i32, size: usize, good: bool) -> Listed
+fn list_chunk<R: Read, W: Write>(input: &mut R, output: &mut W, size: usize, good: bool) -> Listed
     requires { size + 32768 ≤ 9223372036854775808 }
     ensures { result.size ≤ size + 32768 }
 {
     let mut chunk = [0u8; 32768];
     let filled = input::fill(input, &mut chunk);
     let n = filled.size;
-    let written = write_chunk(size / 32, &chunk[..n]);
+    let written = write_chunk(output, size / 32, &chunk[..n]);
     Listed {
         size: size + n,
         good: good || some_holds(&chunk[..n]),
@@ -195,7 +196,7 @@ fn list_chunk(input: i32, size: usize, good: bool) -> Listed
 
 // Lists the FIGs of an input to its end, or as far as it can be read and the text be written. An input of more than 2^48 chunks
 // counts as one that failed.
-pub(crate) fn list_figs(input: i32) -> Listed {
+pub(crate) fn list_figs<R: Read, W: Write>(input: &mut R, output: &mut W) -> Listed {
     let mut listed = Listed {
         size: 0,
         good: false,
@@ -205,7 +206,7 @@ pub(crate) fn list_figs(input: i32) -> Listed {
     };
     let mut turns: usize = 281474976710656;
     while listed.more && 0 < turns {
-        listed = list_chunk(input, listed.size, listed.good);
+        listed = list_chunk(input, output, listed.size, listed.good);
         turns -= 1;
     }
     if listed.more {

@@ -1,16 +1,15 @@
 // Paths: the folder in front of a name, and the file at the end of its links.
-ghost use Rattle.libc.specs.Io.{Ended};
-
+use crate::session::Session;
 use out::{front, put_bytes};
+use std::str::from_utf8;
+use std::{fs, io};
 
-// A path as C takes it: with zeros after it. What is longer than a path can be is cut.
-pub(crate) fn ended(path: &[u8]) -> [u8; 4096]
-    ensures { Ended result }
-{
-    let mut ended = io::buffer();
-    put_bytes(&mut ended, 0, path);
-    ended[4095] = 0;
-    ended
+// The system's number for bytes that are no text, EILSEQ.
+const BAD_TEXT: i32 = 84;
+
+// A path as the library takes it. It takes text alone: a name of other bytes is refused, in the system's words for such bytes.
+pub(crate) fn text_of(path: &[u8]) -> io::Result<&str> {
+    from_utf8(path).map_err(|_| io::Error::from_raw_os_error(BAD_TEXT))
 }
 
 // How many bytes of a path are its folder, with the slash after it: none where it has no slash.
@@ -49,35 +48,44 @@ struct Followed {
     more: bool,
 }
 
+// What the link at a path holds, to the front of a buffer, and its length: 0 where there is no link.
+fn read_link(session: &Session, path: &[u8], link: &mut [u8]) -> io::Result<usize> {
+    match fs::read_link(&session.rt, text_of(path)?) {
+        Ok(target) => Ok(put_bytes(link, 0, target.as_path().as_os_str().as_bytes())),
+        Err(e) if e.raw_os_error().is_some() => Ok(0),
+        Err(e) => Err(e),
+    }
+}
+
 // Where the link at a path leads, in the place of the path. Length 0 where that is longer than a path can be.
-fn follow_once(path: &mut [u8], size: usize) -> Followed {
-    let mut link = io::buffer();
-    let got = libc::readlink(&ended(front(path, size)), &mut link);
-    let n = io::count(got, &link);
+fn follow_once(session: &Session, path: &mut [u8], size: usize) -> io::Result<Followed> {
+    let mut link = [0u8; 4096];
+    let n = read_link(session, front(path, size), &mut link)?;
     if n == 0 {
-        return Followed { size, more: false };
+        return Ok(Followed { size, more: false });
     }
     let folder = kept_before(&link, front(path, size));
     if 4095 <= folder || 4095 - folder < n {
-        return Followed {
+        return Ok(Followed {
             size: 0,
             more: false,
-        };
+        });
     }
-    let size = put_bytes(path, folder, &link[..n]);
-    Followed { size, more: true }
+    let size = put_bytes(path, folder, front(&link, n));
+    Ok(Followed { size, more: true })
 }
 
 // Follows the links at a path, in the place of the path: its length then. At most forty, as the system does; 0 where they are more.
-pub(crate) fn follow(path: &mut [u8], size: usize) -> usize {
+// It fails where a link leads to what is no text, or no memory is left.
+pub(crate) fn follow(session: &Session, path: &mut [u8], size: usize) -> io::Result<usize> {
     let mut now = Followed { size, more: true };
     let mut turns: usize = 0;
     while now.more {
         if 40 <= turns {
-            return 0;
+            return Ok(0);
         }
-        now = follow_once(path, now.size);
+        now = follow_once(session, path, now.size)?;
         turns += 1;
     }
-    now.size
+    Ok(now.size)
 }

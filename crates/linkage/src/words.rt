@@ -1,7 +1,11 @@
 // The words after the program's name, as a request. A word is kept by its place among the arguments and read again where it
 // is needed.
+ghost use Rattle.std.specs.Prelude.{◌≡◌, ◌↔◌, IsTrue};
+
 use crate::say::say;
-use check::same;
+use crate::session::Session;
+use std::env::FillError;
+use std::rt::Env;
 
 // What is asked for.
 #[derive(Clone, Copy)]
@@ -48,6 +52,13 @@ const TOO_LONG: u8 = 4;
 const NO_OUTPUT_NAME: u8 = 5;
 
 const BOTH_FORMS: u8 = 6;
+
+// Whether two words are the same.
+pub(crate) fn same(a: &[u8], b: &[u8]) -> bool
+    ensures { IsTrue result ↔ (a.now ≡ b.now) }
+{
+    a == b
+}
 
 // The action that a word names.
 pub(crate) fn action_of(word: &[u8]) -> Action {
@@ -191,13 +202,12 @@ impl Options {
     }
 
     // With the argument at a place.
-    fn with_argument(self, i: usize) -> Options {
-        let mut word = io::buffer();
-        let n = os::arg(i, &mut word);
-        if os::errno() != 0 {
-            return self.with_fault(TOO_LONG, i);
+    fn with_argument(self, session: &Session, i: usize) -> Options {
+        let mut word = [0u8; 4096];
+        match session.rt.arg(i, &mut word) {
+            Ok(n) => self.with_word(i, &word[..n]),
+            Err(_) => self.with_fault(TOO_LONG, i),
         }
-        self.with_word(i, &word[..n])
     }
 
     // Whether two of the forms are asked for, of which there can be one.
@@ -223,46 +233,61 @@ impl Options {
     }
 
     // Says what is wrong with the words, if anything is; whether nothing is.
-    pub(crate) fn are_right(self) -> bool {
+    pub(crate) fn are_right(self, session: &Session) -> bool {
         if self.fault == NO_FAULT {
             return true;
         }
-        let mut word = io::buffer();
-        let n = os::arg(self.at, &mut word);
-        explain(self.fault, &word[..n]);
+        let mut word = [0u8; 4096];
+        let n = session.rt.arg(self.at, &mut word).unwrap_or(0);
+        explain(session, self.fault, &word[..n]);
         false
     }
 }
 
 // Says what is wrong with a word.
-fn explain(fault: u8, word: &[u8]) {
+fn explain(session: &Session, fault: u8, word: &[u8]) {
     if fault == NO_SUCH_OPTION {
-        say(b"no such option: ", word, b"");
+        say(session, b"no such option: ", word, b"");
     } else if fault == SECOND_INPUT {
-        say(b"one file at a time: what is ", word, b" for?");
+        say(session, b"one file at a time: what is ", word, b" for?");
     } else if fault == SECOND_OUTPUT {
-        say(b"one output at a time: what is ", word, b" for?");
+        say(session, b"one output at a time: what is ", word, b" for?");
     } else if fault == TOO_LONG {
         say(
+            session,
             b"a word of the command is longer than a file's name can be",
             b"",
             b"",
         );
     } else if fault == NO_OUTPUT_NAME {
-        say(b"-o wants a file's name", b"", b"");
+        say(session, b"-o wants a file's name", b"", b"");
     } else {
-        say(b"--confirmed, --table or --csv: only one of them", b"", b"");
+        say(
+            session,
+            b"--confirmed, --table or --csv: only one of them",
+            b"",
+            b"",
+        );
     }
 }
 
+// How many words the command has, the program's name among them.
+pub(crate) fn arg_count(session: &Session) -> usize {
+    let mut room = [0u8; 1];
+    for i in 0..usize::MAX {
+        if let Err(FillError::NotPresent) = session.rt.arg(i, &mut room) {
+            return i;
+        }
+    }
+    usize::MAX
+}
+
 // What the words from the third on ask for: the first is the program's name, the second the action.
-pub(crate) fn read_options() -> Options {
-    let count = os::arg_count();
+pub(crate) fn read_options(session: &Session) -> Options {
+    let count = arg_count(session);
     let mut options = Options::none();
-    let mut i: usize = 2;
-    while i < count {
-        options = options.with_argument(i);
-        i += 1;
+    for i in 2..count {
+        options = options.with_argument(session, i);
     }
     options.ended()
 }

@@ -6,5 +6,5 @@ use Rattle.input.proofs.read_on.Goals as goal
 
 pub returns : goal.returns
 unfolding ReadsMore
-returns c =
-    record { read = (c.with_chunk-received.ensures.0 c.requires.0).0; even = λ e. omega (arith, eqb-true); within = omega arith; }
+returns g c =
+    record { read = (c.with_chunk-received.ensures.reads_more c.requires.reading).0; even = λ e. omega (arith, eqb-true); within = omega arith }

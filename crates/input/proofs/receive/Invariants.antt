@@ -5,7 +5,7 @@ use Rattle.input.specs.Reading.{ReadOn}
 use Rattle.input.proofs.receive.Given as goal
 
 abbrev pub invariant-loop-turn : goal.invariant-loop-turn
-invariant-loop-turn l = (l.turns ≤ 281474976710656) × ReadOn l.turn (32768 * (281474976710656 - l.turns))
+invariant-loop-turn g l = (l.turns ≤ 281474976710656) × ReadOn l.turn (32768 * (281474976710656 - l.turns))
 
 abbrev pub decreases-loop-turn : goal.decreases-loop-turn
-decreases-loop-turn l = l.turns
+decreases-loop-turn g l = l.turns

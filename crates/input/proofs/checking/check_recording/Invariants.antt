@@ -5,7 +5,7 @@ use Rattle.input.specs.Checking.{CheckedOn}
 use Rattle.input.proofs.checking.check_recording.Given as goal
 
 abbrev pub invariant-loop-turn : goal.invariant-loop-turn
-invariant-loop-turn l = (l.turns ≤ 281474976710656) × CheckedOn l.turn (32768 * (281474976710656 - l.turns))
+invariant-loop-turn g l = (l.turns ≤ 281474976710656) × CheckedOn l.turn (32768 * (281474976710656 - l.turns))
 
 abbrev pub decreases-loop-turn : goal.decreases-loop-turn
-decreases-loop-turn l = l.turns
+decreases-loop-turn g l = l.turns

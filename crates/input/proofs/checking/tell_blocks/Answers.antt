@@ -8,13 +8,12 @@ use Rattle.input.proofs.CheckLaws.{chunk_follows}
 use Rattle.input.proofs.checking.tell_blocks.Goals as goal
 
 pub put_blocks-told-requires : goal.put_blocks-told-requires
-put_blocks-told-requires c = omega (arith, c.requires)
+put_blocks-told-requires g c = omega (arith, c.requires.chunk_len_bound)
 
 pub write_lines-requires : goal.write_lines-requires
-write_lines-requires c =
-    let begun = c in
-    chunk_follows _ _ _ begun.requires.0 begun.requires.1.0
-    (c.front.ensures ∙ puts_front c.put_blocks-told.ensures.puts (le_trans (lines_short _ _ _) (omega (arith, begun.requires.1.1))))
+write_lines-requires g c =
+    chunk_follows _ _ _ c.requires.reading c.requires.size_value
+    (c.front.ensures ∙ puts_front c.put_blocks-told.ensures.puts (le_trans (lines_short _ _ _) (omega (arith, c.requires.chunk_len_bound))))
 
 pub returns : goal.returns
-returns c = c.put_blocks-told.ensures.refused-are
+returns g c = c.put_blocks-told.ensures.refused_are

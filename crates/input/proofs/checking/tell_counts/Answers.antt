@@ -6,6 +6,6 @@ use Rattle.input.proofs.CheckLaws.{counts_end}
 use Rattle.input.proofs.checking.tell_counts.Goals as goal
 
 pub write_end-requires : goal.write_end-requires
-write_end-requires c =
-    let given = c.requires in
-    counts_end _ _ given.0 given.1 (c.front.ensures ∙ puts_front c.put_counts-end.ensures (counts_short _ _ _ _))
+write_end-requires g c =
+    counts_end _ _ c.requires.checking c.requires.failed_value
+    (c.front.ensures ∙ puts_front c.put_counts-end.ensures (counts_short _ _ _ _))
