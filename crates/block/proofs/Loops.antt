@@ -14,7 +14,7 @@ use Rattle.rules.proofs.Taken.{walk_item, walk_end, walk_wrong, block_item, bloc
 use Rattle.figs.specs.declared.Cursor.{Cursor}
 use Rattle.figs.specs.declared.FigStep.{FigStep}
 use Rattle.figs.specs.declared.FigStep.TheVariants.{Fig, End as FigEnd, Wrong as FigWrong}
-use Rattle.figs.specs.Figs.{step_at, found as figFound}
+use Rattle.figs.specs.Figs.{step_at, found as fig_found}
 use Rattle.figs.proofs.Laws.{step_at_means, step_at_range, Lies}
 use Rattle.field.specs.declared.Field.{Field}
 use Rattle.field.specs.declared.FieldStep.{FieldStep}
@@ -251,19 +251,19 @@ module _ (fib : List ℕ) (found : Pushed) (at : ℕ) (block : length fib ≡ 32
       ∙ ap (judge_figs_from found.fault so.fields) e
 
   -- what the rules find at this place, by what the code does
-  fig_as : (s : FigStep) → step_at fib at ≡ s → fig_at fib at ≡ figFound fib s
-  fig_as s e = sym (step_at_means fib at block) ∙ ap (figFound fib) e
+  fig_as : (s : FigStep) → step_at fib at ≡ s → fig_at fib at ≡ fig_found fib s
+  fig_as s e = sym (step_at_means fib at block) ∙ ap (fig_found fib) e
 
   -- at the end of the list
   pub figs_end : step_at fib at ≡ FigEnd → (r : Judged) → Concludes found r → JudgesFigs fib r
-  unfolding figFound JudgesFigs Concludes
+  unfolding fig_found JudgesFigs Concludes
   figs_end e r c =
       c so.fields so.stored
       ∙ sym (figs_from (whole []) (walk_end 0 (fig_at fib) less at (fig_as FigEnd e)) ∙ figs_none found.fault so.fields so.most)
 
   -- at a FIG whose length is wrong
   pub figs_break : step_at fib at ≡ FigWrong → (r : Judged) → r ≡ record { outcome = WrongFig; place = at; spots = no_spots } → JudgesFigs fib r
-  unfolding figFound JudgesFigs judged_as
+  unfolding fig_found JudgesFigs judged_as
   figs_break e r a =
       a ∙ sym (figs_from (broken at) (block_wrong (fig_at fib) less at (fig_as FigWrong e)) ∙ figs_wrong found.fault so.fields at)
 
@@ -292,7 +292,7 @@ module _ (fib : List ℕ) (found : Pushed) (at : ℕ) (block : length fib ≡ 32
         }
 
     steps : walk 0 (fig_at fib) (suc less) at ≡ after fig (walk 0 (fig_at fib) less next.at)
-    unfolding figFound fig
+    unfolding fig_found fig
     steps = block_item (fig_at fib) less at fig.what next.at (fig_as (Fig kind start stop next) e)
 
     still : 30 < next.at + less

@@ -164,7 +164,7 @@ pub data JudgeAnswer (fib : List ℕ) (r : Judged) : Type 0 where
   -- 0, with one spot a field
   done : (fs : List FieldOf) → verdict fib ≡ taken fs → number_of r.outcome ≡ 0 → r.place ≡ 0 → r.spots.count ≡ length fs → JudgeAnswer fib r
   -- 1
-  not_aBlock : (length fib ≡ 32 → ⊥) → number_of r.outcome ≡ 1 → r.place ≡ 0 → r.spots ≡ no_spots → JudgeAnswer fib r
+  not_a_block : (length fib ≡ 32 → ⊥) → number_of r.outcome ≡ 1 → r.place ≡ 0 → r.spots ≡ no_spots → JudgeAnswer fib r
   -- 2 to 6, each for its reason, at its place
   refused_block : length fib ≡ 32 → Refused fib (number_of r.outcome) r.place → r.spots ≡ no_spots → JudgeAnswer fib r
 
@@ -172,7 +172,7 @@ answer_as : (fib : List ℕ) (v : Verdict) → verdict fib ≡ v → JudgeAnswer
 unfolding judged_as number_of
 answer_as fib (taken fs) e = done fs e refl refl (spots_are fib fs e).count
 answer_as fib (refused o p) e = let f = refused_full fib o p e in refused_block f.0 f.1 refl
-answer_as fib no_block e = not_aBlock (λ l. subst (Refusal fib) e (full_refusal fib l)) refl refl refl
+answer_as fib no_block e = not_a_block (λ l. subst (Refusal fib) e (full_refusal fib l)) refl refl refl
 
 pub judge_answers : (fib : List ℕ) (r : Judged) → r ≡ judged fib → JudgeAnswer fib r
 unfolding judged

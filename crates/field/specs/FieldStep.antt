@@ -33,7 +33,7 @@ head_of flag h a b c from =
       from = from;
     }
 
--- the answer at a place of a body, by the tests of fieldAt, in its order; identifiers begin after the field's own bytes
+-- the answer at a place of a body, by the tests of field_at, in its order; identifiers begin after the field's own bytes
 unfoldable pub field_step_at : List ℕ → ℕ → FieldStep
 field_step_at body at =
     cond (leb (length body) at) End

@@ -18,7 +18,7 @@ use Rattle.rules.specs.declared.Outcome.TheVariants.{Done}
 use Rattle.rules.specs.Block.{bit}
 use Rattle.rules.specs.Field.{Pair}
 use Rattle.rules.specs.Collecting.{IdSet, Entries, Content, just_sets, Shown, is_key, key_width, pairs_meet, if_there, number_meets, entry_meets, ascends, entries_meet, sets_meet, meets, showing, shown_sets}
-use Rattle.layout.specs.Sheet.{groups, sheet_number, sheet_pairs, sheet_set, sheet_sets, sheet, alone, just_shown, Load, accepted, not_aSheet}
+use Rattle.layout.specs.Sheet.{groups, sheet_number, sheet_pairs, sheet_set, sheet_sets, sheet, alone, just_shown, Load, accepted, not_a_sheet}
 use Rattle.rules.proofs.Basics.{same_head, same_tail, cases_bool, and_left, and_right, and_both, bit_small}
 use Rattle.rules.proofs.TableRules.{kind_small, names_small, width_most, within_width, pair_rules, SetRules, set_rules, entry_rules, KeyMeets, key_meets_law, table_rules, NumbersWithin, content_meets, nothing_meets, sets_meet_law, shown_few}
 
@@ -324,14 +324,14 @@ shown_by_bytes bytes t u g h d e = ap (λ (ss : List Shown). just_sets (map alon
 pub load_single : {bytes : List ℕ} {o p : Outcome} {t u : Content} → Load bytes o t → Load bytes p u → (o ≡ p) × (t ≡ u)
 load_single {bytes} (accepted a g d oe te) (accepted b h e pe ue) =
     (oe ∙ sym pe, te ∙ shown_by_bytes bytes a b g h d e ∙ sym ue)
-load_single (accepted a g d oe te) (not_aSheet never pe ue) = absurd (never a g d)
-load_single (not_aSheet never oe te) (accepted b h e pe ue) = absurd (never b h e)
-load_single (not_aSheet never oe te) (not_aSheet nor pe ue) = (oe ∙ sym pe, te ∙ sym ue)
+load_single (accepted a g d oe te) (not_a_sheet never pe ue) = absurd (never a g d)
+load_single (not_a_sheet never oe te) (accepted b h e pe ue) = absurd (never b h e)
+load_single (not_a_sheet never oe te) (not_a_sheet nor pe ue) = (oe ∙ sym pe, te ∙ sym ue)
 
 -- what loading leaves meets the table rules
 pub load_meets : {bytes : List ℕ} {o : Outcome} {t : Content} → Load bytes o t → meets t ≡ true
 load_meets (accepted a g d oe te) = rw te (shown_meet a g)
-load_meets (not_aSheet never oe te) = rw te nothing_meets
+load_meets (not_a_sheet never oe te) = rw te nothing_meets
 
 -- loading what was written gives the shown sets
 pub load_written : {o : Outcome} {u : Content} (t : Content) → meets t ≡ true → Load (sheet t) o u → (o ≡ Done) × (u ≡ just_shown t)
@@ -340,4 +340,4 @@ load_written t h l = load_single l (accepted t h refl refl refl)
 -- what is loaded, written again, gives the same bytes
 pub load_again : {bytes : List ℕ} {u : Content} → Load bytes Done u → sheet u ≡ bytes
 load_again (accepted a g d oe ue) = ap sheet ue ∙ sheet_shown a ∙ d
-load_again (not_aSheet never oe ue) = let z : ◌≡◌ {A = ℕ} 0 1 = cc in absurd (omega arith)
+load_again (not_a_sheet never oe ue) = let z : ◌≡◌ {A = ℕ} 0 1 = cc in absurd (omega arith)

@@ -21,7 +21,7 @@ use Rattle.rules.specs.Block.{bit}
 use Rattle.rules.specs.Field.{Pair, pair}
 use Rattle.rules.specs.Family.{member}
 use Rattle.rules.specs.Collecting.{linkage, Entries, Content, nothing, just_sets, Shown, is_key, key_width, all_differ, may_begin, begins_right, kind_named, pairs_meet, names_meet, entry_meets, ascends, entries_meet, meets, shown_sets, most_keys, most_ids}
-use Rattle.layout.specs.Sheet.{groups, sheet_number, sheet_pairs, sheet_set, sheet_sets, sheet, alone, just_shown, Load, accepted, not_aSheet}
+use Rattle.layout.specs.Sheet.{groups, sheet_number, sheet_pairs, sheet_set, sheet_sets, sheet, alone, just_shown, Load, accepted, not_a_sheet}
 use Rattle.rules.proofs.Basics.{cases_bool, cases-option, true-false, and_left, and_right, and_both, bit_small}
 use Rattle.rules.proofs.FamilyLaws.{different_snoc}
 use Rattle.rules.proofs.TableRules.{lawful, kind_small, names_small, width_most, within_width, all_differ_law, differ_before, pair_rules, some_there, not_empty_law, key_meets_law, table_rules, sets_meet_law, shown_few}
@@ -667,7 +667,7 @@ pub parse_loads : (bytes : List ℕ) → Bytes bytes → Load bytes (parsed_outc
 unfolding parsed_outcome parsed_left
 parse_loads bytes byte =
     cases-option (parse_sheet bytes)
-    (λ e. not_aSheet ((parse_none bytes byte).0 e) (rw e) (rw e))
+    (λ e. not_a_sheet ((parse_none bytes byte).0 e) (rw e) (rw e))
     (λ u e. let r = sheet_read bytes u byte e in accepted u r.rules r.writes (rw e) (rw e (sym r.alone)))
 
 -- ---- the loops, a turn at a time

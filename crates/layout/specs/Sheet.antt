@@ -50,4 +50,4 @@ just_shown t = just_sets (map alone (shown_sets t.sets))
 -- 10 and the empty table
 pub data Load (bytes : List ℕ) (outcome : Outcome) (left : Content) : Type 0 where
   accepted : (t : Content) → meets t ≡ true → sheet t ≡ bytes → outcome ≡ Done → left ≡ just_shown t → Load bytes outcome left
-  not_aSheet : ((t : Content) → meets t ≡ true → sheet t ≡ bytes → ⊥) → outcome ≡ NotASheet → left ≡ nothing → Load bytes outcome left
+  not_a_sheet : ((t : Content) → meets t ≡ true → sheet t ≡ bytes → ⊥) → outcome ≡ NotASheet → left ≡ nothing → Load bytes outcome left

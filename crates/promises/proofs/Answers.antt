@@ -53,7 +53,7 @@ pub data BlockAnswer (t : Table) (fib : List ℕ) (r : Answer) : Type 0 where
   -- 0, with one note a field
   done : Stored t → (fs : List Field) → verdict fib ≡ taken fs → number_of r.outcome ≡ 0 → r.place ≡ 0 → r.notes.count ≡ length fs → BlockAnswer t fib r
   -- 1: everything is left as it was
-  not_aBlock : Stored t → (length fib ≡ 32 → ⊥) → number_of r.outcome ≡ 1 → r.place ≡ 0 → r.notes ≡ no_notes → r.table ≡ t → BlockAnswer t fib r
+  not_a_block : Stored t → (length fib ≡ 32 → ⊥) → number_of r.outcome ≡ 1 → r.place ≡ 0 → r.notes ≡ no_notes → r.table ≡ t → BlockAnswer t fib r
   -- 2 to 6, each for its reason, at the place of the first fault within the class answered: everything but the open lists and the count
   -- is left as it was
   refused_block : Stored t → length fib ≡ 32 → Refused fib (number_of r.outcome) r.place → FirstFault fib (number_of r.outcome) r.place
@@ -86,7 +86,7 @@ read_block_answers t fib r (stored c f p a) =
     (λ e. absurd (subst (Refusal fib) e (full_refusal fib (eqb-true _ _ l)))))
     (λ l.
     let q = a ∙ ap run_as (no_block_law c fib (eqb-false _ _ l)) in
-    not_aBlock (c, f, p) (eqb-false _ _ l) (ap (λ (x : Answer). number_of x.outcome) q) (ap (λ (x : Answer). x.place) q) (ap (λ (x : Answer). x.notes) q ∙ sym no_notes_law)
+    not_a_block (c, f, p) (eqb-false _ _ l) (ap (λ (x : Answer). number_of x.outcome) q) (ap (λ (x : Answer). x.place) q) (ap (λ (x : Answer). x.notes) q ∙ sym no_notes_law)
     (ap (λ (x : Answer). x.table) q ∙ sym p))
 read_block_answers t fib r (not_stored n a) =
     wrong_table n (ap (λ (x : Answer). number_of x.outcome) a) (ap (λ (x : Answer). x.place) a) (ap (λ (x : Answer). x.notes) a) (ap (λ (x : Answer). x.table) a)
@@ -96,7 +96,7 @@ read_block_answers t fib r (not_stored n a) =
 pub read_block_refused : (t : Table) (fib : List ℕ) (r : Answer) → BlockAnswer t fib r → (number_of r.outcome ≡ 0 → ⊥)
     → (r.table ≡ t) ⊎ (Refused fib (number_of r.outcome) r.place × OpenDropped t r.table)
 read_block_refused t fib r (done s fs e o p n) h = absurd (h o)
-read_block_refused t fib r (not_aBlock s l o p n e) h = inl e
+read_block_refused t fib r (not_a_block s l o p n e) h = inl e
 read_block_refused t fib r (refused_block s l w f n d) h = inr (w, d)
 read_block_refused t fib r (wrong_table s o p n e) h = inl e
 
@@ -105,7 +105,7 @@ read_block_refused t fib r (wrong_table s o p n e) h = inl e
 pub read_block_place : (t : Table) (fib : List ℕ) (r : Answer) → BlockAnswer t fib r → 2 ≤ number_of r.outcome → number_of r.outcome ≤ 6
     → FirstFault fib (number_of r.outcome) r.place
 read_block_place t fib r (done s fs e o p n) l h = absurd (omega arith)
-read_block_place t fib r (not_aBlock s k o p n e) l h = absurd (omega arith)
+read_block_place t fib r (not_a_block s k o p n e) l h = absurd (omega arith)
 read_block_place t fib r (refused_block s k w f n d) l h = f
 read_block_place t fib r (wrong_table s o p n e) l h = absurd (omega arith)
 
@@ -121,7 +121,7 @@ check_place (of_start gs g fs e v p b) l = absurd (omega arith)
 pub read_block_no_place : (t : Table) (fib : List ℕ) (r : Answer) → BlockAnswer t fib r → (number_of r.outcome < 3) ⊎ (number_of r.outcome ≡ 9)
     → r.place ≡ 0
 read_block_no_place t fib r (done s fs e o p n) h = p
-read_block_no_place t fib r (not_aBlock s k o p n e) h = p
+read_block_no_place t fib r (not_a_block s k o p n e) h = p
 read_block_no_place t fib r (refused_block s k w f n d) (inl h) = check_place f h
 read_block_no_place t fib r (refused_block s k w f n d) (inr h) = absurd (omega (arith, refused_numbers w))
 read_block_no_place t fib r (wrong_table s o p n e) h = p

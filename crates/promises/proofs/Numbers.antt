@@ -6,7 +6,7 @@ use native.Mathlib.Omega.{arith}
 use mathlib.Core.Path.{◌≡◌, refl, sym, ap, ◌∙◌, subst}
 use mathlib.Core.Bool.{Bool, true, ◌||◌}
 use mathlib.Core.List.{List, [], ◌∷◌, map}
-use mathlib.Core.Option.{Option, none, some}
+use mathlib.Core.Option.{Option, some}
 use lib.ListN.{length, get_or, take, get_elem?}
 use lib.Dec.{leb, ltb, eqb}
 use borrow.Author.Tests.{leb-true}
@@ -25,7 +25,7 @@ use Rattle.promises.specs.Numbers.{is_block, blocks_in, number_at, LastConfirmed
 use Rattle.rules.proofs.Basics.{cases_bool, cases-option, none_some, and_left, and_right}
 use Rattle.rules.proofs.TableRules.{lawful, table_meets_law, content_meets, sets_meet_law}
 use Rattle.rules.proofs.Numbers.{last_shown}
-use Rattle.layout.specs.Sheet.{just_shown, Load, accepted, not_aSheet}
+use Rattle.layout.specs.Sheet.{just_shown, Load, accepted, not_a_sheet}
 use Rattle.sets.specs.Stored.{past, NumbersHold}
 use Rattle.sets.proofs.SetsLaws.{stored_facts}
 use Rattle.table.specs.declared.Table.{Table}
@@ -194,7 +194,7 @@ number_alone i h z p (not_stored n a) = a
 load_count : {bytes : List ℕ} {o : Outcome} {c : Content} → Load bytes o c → c.blocks ≡ 0
 unfolding just_shown
 load_count (accepted a g d oe te) = ap (λ (x : Content). x.blocks) te
-load_count (not_aSheet never oe te) = ap (λ (x : Content). x.blocks) te
+load_count (not_a_sheet never oe te) = ap (λ (x : Content). x.blocks) te
 
 -- a loaded table has counted no block, and no set of it has a number
 pub load_sheet_unnumbered : (bytes : List ℕ) (r : Loaded) → Loads bytes r → (r.table.blocks ≡ 0) × ((i : ℕ) → get_or r.table.sets.confirmed i 0 ≡ 0)

@@ -15,7 +15,7 @@ use Rattle.rules.specs.Outcomes.{number_of, overwritten}
 use Rattle.pieces.specs.Air.{air}
 use Rattle.out.specs.Writing.{written_to}
 use Rattle.out.specs.Writing as Writing
-use Rattle.layout.specs.Sheet.{sheet, just_shown, Load, accepted, not_aSheet}
+use Rattle.layout.specs.Sheet.{sheet, just_shown, Load, accepted, not_a_sheet}
 use Rattle.text.specs.Listing.{listing}
 use Rattle.text.specs.Confirmed.{confirmed_listing}
 use Rattle.screen.specs.Screen.{totals_text}
@@ -93,7 +93,7 @@ pub data LoadAnswer (bytes : List ℕ) (r : Loaded) : Type 0 where
 load_by : (bytes : List ℕ) (r : Loaded) (left : Content) → Load bytes r.outcome left → r.table ≡ store_table left → LoadAnswer bytes r
 unfolding number_of
 load_by bytes r left (accepted c m s o l) e = loaded c m s (ap number_of o) (e ∙ ap store_table l)
-load_by bytes r left (not_aSheet n o l) e = no_sheet n (ap number_of o) (e ∙ ap store_table l)
+load_by bytes r left (not_a_sheet n o l) e = no_sheet n (ap number_of o) (e ∙ ap store_table l)
 
 pub load_sheet_answers : (bytes : List ℕ) (r : Loaded) → Loads bytes r → LoadAnswer bytes r
 load_sheet_answers bytes r l = load_by bytes r l.left l.load l.stored

@@ -13,7 +13,7 @@ use Rattle.rules.proofs.Basics.{bit_small}
 use Rattle.rules.proofs.LinkageLaws.{refused_full, refused_numbers}
 use Rattle.block.specs.declared.Judged.{Judged}
 use Rattle.block.specs.Judged.{judged}
-use Rattle.block.proofs.Meaning.{JudgedAs, is_taken, is_refused as refusedAs, is_no_block, says}
+use Rattle.block.proofs.Meaning.{JudgedAs, is_taken, is_refused as refused_as, is_no_block, says}
 use Rattle.report.specs.Report.{refusal_line, block_line, lines_of}
 
 -- ---- whole blocks before others
@@ -54,13 +54,13 @@ module _ (block : ℕ) (fib : List ℕ) (r : Judged) where
   none_as : JudgedAs fib (verdict fib) r → number_of r.outcome < 2 → ToldAs block (verdict fib) [] 0
   unfolding block_line is_refused bit
   none_as (is_taken fs v o p s) h = rw v (refl, refl)
-  none_as (refusedAs o p v q at s) h = absurd (omega (arith, ap number_of q, refused_numbers (refused_full fib o p v).1))
+  none_as (refused_as o p v q at s) h = absurd (omega (arith, ap number_of q, refused_numbers (refused_full fib o p v).1))
   none_as (is_no_block v o p s) h = rw v (refl, refl)
 
   line_as : JudgedAs fib (verdict fib) r → 2 ≤ number_of r.outcome → ToldAs block (verdict fib) (refusal_line block r.outcome r.place) 1
   unfolding block_line is_refused bit number_of
   line_as (is_taken fs v o p s) h = absurd (omega (arith, ap number_of o))
-  line_as (refusedAs o p v q at s) h = rw (v, q, at) (refl, refl)
+  line_as (refused_as o p v q at s) h = rw (v, q, at) (refl, refl)
   line_as (is_no_block v o p s) h = absurd (omega (arith, ap number_of o))
 
   -- below 2 it is taken or no block
