@@ -18,7 +18,8 @@ use Rattle.sheet.specs.Loading.{Loads}
 use Rattle.outputs.specs.declared.Output.{Output}
 use Rattle.outputs.specs.Output.{output_of}
 use Rattle.input.specs.declared.Received.{Received}
-use Rattle.input.specs.Reading.{Reading}
+use Rattle.input.specs.declared.Fetched.{Fetched}
+use Rattle.input.specs.Reading.{Reading, Loading}
 use Rattle.linkage.specs.Made.{of_recording, of_sheet, Made, Holding}
 
 -- a recording
@@ -32,8 +33,11 @@ recording_held r a =
     }
 
 -- a sheet
-pub sheet_held : (bytes : List ℕ) (l : Loaded) → Loads bytes l → l.outcome ≡ Done → Holding l.table 0
+sheet_held : (bytes : List ℕ) (l : Loaded) → Loads bytes l → l.outcome ≡ Done → Holding l.table 0
 sheet_held bytes l a d = record { content = a.left; meets = load_meets a.load; stored = a.stored; came = of_sheet bytes (rw d at a.load) refl }
+
+pub fetched_held : (f : Fetched) → Loading f → f.loaded.outcome ≡ Done → Holding f.loaded.table 0
+fetched_held f a d = sheet_held a.bytes f.loaded a.loads d
 
 -- what is made of either
 pub held_made : (asked : Output) (t : Table) (rest : ℕ) (old : List ℕ) (w : Written) (new made : List ℕ) → Holding t rest

@@ -1,4 +1,3 @@
-use Prim.Native.Nat.{◌-◌}
 use native.Mathlib.Omega.{arith}
 use Rattle.input.proofs.Laws.{counts_front}
 use Rattle.input.proofs.fill_up.Goals as goal
@@ -11,3 +10,6 @@ returns-else-not-n g c = counts_front _ _ c.loop-n.invariant.0
 
 pub returns-after-loop-n : goal.returns-after-loop-n
 returns-after-loop-n g c = counts_front _ _ c.loop-n.invariant.0
+
+pub loop-n-smaller : goal.loop-n-smaller
+loop-n-smaller g c = omega arith

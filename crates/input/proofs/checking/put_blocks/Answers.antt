@@ -1,4 +1,3 @@
-use Prim.Native.Nat.{◌-◌}
 use native.Mathlib.Omega.{arith}
 use Rattle.input.proofs.CheckLaws.{telling_start, telling_on, telling_within, telling_end}
 use Rattle.input.proofs.checking.put_blocks.Goals as goal
