@@ -1,8 +1,7 @@
 // The FIGs of blocks as text: each block has a line with its number, from 0, and a word where its check fails, and then a line
 // for each FIG, with its type and the length of its body; where the walk finds a wrong FIG it says so and stops. Bytes left over
 // at the end are counted in a last line. A block with a failing check is walked all the same.
-// The walk goes by the reader of crate reader. The borrow checker covers no function over a struct that holds a slice, so `walk`
-// is proved by hand.
+// The walk goes by the reader of crate reader.
 ghost use Rattle.std.specs.Prelude.{◌≡◌, ◌+◌, ◌<◌, ◌≤◌, length};
 
 use crate::sink::write_whole;

@@ -78,27 +78,49 @@ fn refuses(error: io::Error) -> bool {
     }
 }
 
-// Whether files can be made in the folder of a path, which a file shows that is made and removed at once; it says why not. The
-// launcher hears of it first, as of the file that is filled later under the same name.
-fn is_writable(session: &Session, folder: &[u8], path: &[u8]) -> bool {
+// What a try to make a file in a folder shows: that files can be made there, that the name was taken, or that none can be made,
+// which has been said then.
+#[derive(Clone, Copy)]
+enum Tried {
+    Writable,
+    Taken,
+    Refused,
+}
+
+// Tries to make the file of a number beside a path, and removes it at once. The launcher hears of it first.
+fn try_folder(session: &Session, folder: &[u8], path: &[u8], k: usize) -> Tried {
     let mut part = [0u8; 4096];
-    let size = put_part(session, path, 0, &mut part);
+    let size = put_part(session, path, k, &mut part);
     session.tell(front(&part, size));
     match create(session, front(&part, size)) {
         Ok(_) => {
             unlink(session, front(&part, size));
-            true
+            Tried::Writable
         }
+        Err(e) if e.kind() == ErrorKind::AlreadyExists => Tried::Taken,
         Err(e) if e.kind() == ErrorKind::NotFound => {
             say(session, b"no folder to write into: ", folder, b"");
-            false
+            Tried::Refused
         }
         Err(e) if refuses(e) => {
             say_failed(session, b"cannot write into ", folder, e);
-            false
+            Tried::Refused
         }
-        Err(_) => true,
+        Err(_) => Tried::Writable,
     }
+}
+
+// Whether files can be made in the folder of a path, which a file shows that is made and removed at once, under the first name that is
+// free; it says why not.
+fn is_writable(session: &Session, folder: &[u8], path: &[u8]) -> bool {
+    for k in 0..100 {
+        match try_folder(session, folder, path, k) {
+            Tried::Writable => return true,
+            Tried::Taken => {}
+            Tried::Refused => return false,
+        }
+    }
+    true
 }
 
 // A file of its own at the end of all links, whose folder can be written to. The path is left in a buffer.
