@@ -23,7 +23,8 @@ use Rattle.out.specs.declared.Written.{Written}
 use Rattle.out.proofs.Answers.{output_bytes}
 use Rattle.promises.proofs.Contracts.{ReadsRecording, WritesAir}
 use Rattle.promises.proofs.Answers.{Stores}
-use Rattle.promises.proofs.Writing.{WriteAnswer, written, too_short, no_table, write_air_answers}
+use Rattle.promises.proofs.Writing.{WriteAnswer, written, too_short, no_table}
+use Rattle.promises.proofs.Written.{write_air_answers}
 use Rattle.promises.proofs.Buffers.{write_most, write_enough}
 
 module _ (t : Table) (old : List ℕ) (r : Written) (new : List ℕ) where

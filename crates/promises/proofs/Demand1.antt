@@ -43,7 +43,8 @@ use Rattle.sheet.proofs.load_sheet as load_sheet
 use Rattle.promises.proofs.Proved as Proved
 use Rattle.promises.proofs.Proved.{Promised, promised_so}
 use Rattle.promises.proofs.Answers.{BlockAnswer, RecordingAnswer, ForgetAnswer, CopyAnswer, CountAnswer, read_block_answers, read_recording_answers, forget_key_answers, copy_out_answers, totals_answers}
-use Rattle.promises.proofs.Writing.{WriteAnswer, LoadAnswer, write_listing_answers, write_confirmed_answers, write_columns_answers, write_totals_answers, write_sheet_answers, write_air_answers, write_output_answers, load_sheet_answers}
+use Rattle.promises.proofs.Writing.{WriteAnswer, LoadAnswer, load_sheet_answers}
+use Rattle.promises.proofs.Written.{write_listing_answers, write_confirmed_answers, write_columns_answers, write_totals_answers, write_sheet_answers, write_air_answers, write_output_answers}
 -- what a refusal leaves: of 2 to 6 everything but the open lists and the count, of every other everything; loading hands back the empty table; and
 -- the place that a block's answer gives: that of the first fault within the class answered, or 0
 pub use Rattle.promises.proofs.Answers.{read_block_refused, read_block_place, read_block_no_place, read_recording_refused, forget_key_refused, copy_out_refused}

@@ -5,31 +5,22 @@ use mathlib.Core.Path.{◌≡◌, sym, ap, ◌∙◌}
 use mathlib.Core.List.{List}
 use lib.ListN.{length, take, get_elem?}
 use Rattle.rules.specs.Field.{Field, key_of}
-use Rattle.rules.specs.Collecting.{Content, Shown, most_keys, most_ids, most_blocks}
+use Rattle.rules.specs.Collecting.{Content, most_keys, most_ids, most_blocks}
 use Rattle.rules.specs.Outcomes.{number_of}
-use Rattle.promises.specs.Demand3.{Operation, Worse, ShowsAt, key_count}
+use Rattle.promises.specs.Demand3.{Operation, Worse, key_count}
 use Rattle.rules.proofs.Basics.{Every, every_take}
 use Rattle.table.specs.declared.Table.{Table}
 use Rattle.table.specs.declared.Copied.{Copied}
 use Rattle.promises.proofs.Contracts.{CopiesOut}
 use Rattle.promises.proofs.Answers.{Stores}
 use Rattle.promises.proofs.Calls.{Reply, Calls, OfBytes, NotedShown, FieldAt, after_all}
-use Rattle.promises.proofs.CallLaws.{copy_call, copy_shown, reply_shows, shows_reply}
-use Rattle.promises.proofs.Receptions.{shown_key, shows_cut, showing_after, same_operation, better_found}
+use Rattle.promises.proofs.CallLaws.{copy_shown, reply_shows, shows_reply}
+use Rattle.promises.proofs.Receptions.{showing_after, same_operation}
 use Rattle.promises.proofs.Numbers.{worse_counts}
 use Rattle.promises.proofs.Demand2.{calls_hold, calls_counted}
+use Rattle.promises.proofs.CutRuns.{cut_shows, copied_alike}
 -- the promise of the rules themselves; why it needs its premises is in Needed.antt
 pub use Rattle.promises.proofs.Better.{better_never_contradicts}
-
--- the set that note 2 at place j of the last reply of a cut run says came to be shown, with the key of that field
-cut_shows : (t : Table) (c : Content) → Stores t c → (ops : List Operation) → Every OfBytes ops → {u : Table} {rs : List Reply}
-    (i j : ℕ) (f : Field) → Calls t (take (suc i) ops) rs u → NotedShown rs i j → FieldAt ops i j f
-    → Stores u (after_all c (take (suc i) ops)) × (s : Shown) × ShowsAt c ops i j s × (s.key ≡ key_of f)
-cut_shows t c holds ops bytes i j f xs n x =
-    let ends = calls_hold c holds (every_take OfBytes (suc i) ops bytes) xs in
-    let last = reply_shows c (take (suc i) ops) i j (rw ends.1 at n) in
-    let s = shows_cut c ops i j last.0 last.1 in
-    (ends.0, last.0, s, shown_key c ops i j last.0 f s x)
 
 -- Two receptions of blocks of bytes, the second worse than the first, from one table that stores a content; the keys that are held in it
 -- or started in the better reception are at most 32.
@@ -51,11 +42,7 @@ module _ (t : Table) (c : Content) (holds : Stores t c) (better worse : List Ope
       → Calls t (take (suc i) better) rs u → Calls t (take (suc i) worse) qs v → NotedShown qs i j → FieldAt worse i j f
       → (ns ks : List ℕ) (a b : Copied) (na ka nb kb : List ℕ) → CopiesOut u (key_of f) ns ks a na ka → CopiesOut v (key_of f) ns ks b nb kb
       → (a ≡ b) × (na ≡ nb) × (ka ≡ kb)
-  better_calls_copied i j f xs ys n x ns ks a b na ka nb kb =
-      let ends = calls_hold c holds (every_take OfBytes (suc i) better bytes) xs in
-      let shown = cut_shows t c holds worse others i j f ys n x in
-      copy_call (key_of f) (after_all c (take (suc i) better)) (after_all c (take (suc i) worse)) ns ks a b na ka nb kb ends.0 shown.0
-      (rw shown.3 at (better_found c better worse holds.0 lacks room i j shown.1 shown.2))
+  better_calls_copied = copied_alike t c holds better worse lacks room bytes others
 
   -- And the number of the block among them: it is the same, also where the count has stopped, and so are both tables' own counts, for a
   -- failing block is counted (document 02, R-9).
@@ -64,7 +51,7 @@ module _ (t : Table) (c : Content) (holds : Stores t c) (better worse : List Ope
       → (ns ks : List ℕ) (a b : Copied) (na ka nb kb : List ℕ) → CopiesOut u (key_of f) ns ks a na ka → CopiesOut v (key_of f) ns ks b nb kb
       → (a.confirmed ≡ b.confirmed) × (u.blocks ≡ v.blocks)
   better_calls_confirmed {u = u} {v = v} i j f xs ys n x ns ks a b na ka nb kb p q = (
-    ap (λ (y : Copied). y.confirmed) (better_calls_copied i j f xs ys n x ns ks a b na ka nb kb p q).0,
+    ap (λ (y : Copied). y.confirmed) (copied_alike t c holds better worse lacks room bytes others i j f xs ys n x ns ks a b na ka nb kb p q).0,
     calls_counted c holds (every_take OfBytes (suc i) better bytes) xs
         ∙ ap (λ (k : ℕ). min (t.blocks + k) most_blocks) (worse_counts (suc i) lacks)
         ∙ sym (calls_counted c holds (every_take OfBytes (suc i) worse others) ys),

@@ -9,6 +9,7 @@ pub mod Single
 pub mod Answers
 pub mod Kept
 pub mod Writing
+pub mod Written
 pub mod Buffers
 pub mod AirWritten
 pub mod SheetWritten
@@ -23,4 +24,5 @@ pub mod CallLaws
 pub mod Numbers
 pub mod Demand1
 pub mod Demand2
+pub mod CutRuns
 pub mod Demand3

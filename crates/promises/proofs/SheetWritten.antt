@@ -18,7 +18,7 @@ use Rattle.out.proofs.Answers.{output_bytes}
 use Rattle.sheet.specs.declared.Loaded.{Loaded}
 use Rattle.sheet.specs.Loading.{Loads}
 use Rattle.promises.proofs.Contracts.{WritesSheet}
-use Rattle.promises.proofs.Writing.{write_sheet_answers}
+use Rattle.promises.proofs.Written.{write_sheet_answers}
 use Rattle.promises.proofs.Buffers.{write_done, write_most, write_enough}
 
 module _ (t : Table) (old : List ℕ) (r : Written) (new : List ℕ) (w : WritesSheet t old r new) where

@@ -1,9 +1,9 @@
 -- What writes an output of a table into a lent buffer has a numbered outcome, and every refusal leaves the buffer as it was
--- (document 01, demand 1): one law over the output; by it the listing with numbers and without, the columns, the totals, the sheet and the blocks for air. Last,
+-- (document 01, demand 1): one law over the output; by it, in Written.antt, the listing with numbers and without, the columns, the totals, the sheet and the blocks for air. Last,
 -- loading a sheet. What follows from these answers is in Buffers.antt, AirWritten.antt and SheetWritten.antt.
 use Prim.Native.Nat.{ℕ, ◌≤◌, ◌<◌}
 use mathlib.Core.Path.{◌≡◌, ap, ◌∙◌}
-use mathlib.Core.Bool.{Bool, true}
+use mathlib.Core.Bool.{true}
 use mathlib.Core.List.{List, ◌++◌}
 use lib.ListN.{length, drop}
 use lib.Dec.{ltb}
@@ -12,13 +12,9 @@ use Rattle.rules.specs.declared.Outcome.{Outcome}
 use Rattle.rules.specs.declared.Outcome.TheVariants.{Done, ShortBuffer, WrongTable}
 use Rattle.rules.specs.Collecting.{Content, nothing, meets}
 use Rattle.rules.specs.Outcomes.{number_of, overwritten}
-use Rattle.pieces.specs.Air.{air}
 use Rattle.out.specs.Writing.{written_to}
 use Rattle.out.specs.Writing as Writing
 use Rattle.layout.specs.Sheet.{sheet, just_shown, Load, accepted, not_a_sheet}
-use Rattle.text.specs.Listing.{listing}
-use Rattle.text.specs.Confirmed.{confirmed_listing}
-use Rattle.screen.specs.Screen.{totals_text}
 use Rattle.rules.proofs.Basics.{cases_bool}
 use Rattle.table.specs.declared.Table.{Table}
 use Rattle.table.specs.Stored.{store_table, Stored, stored, not_stored}
@@ -26,10 +22,6 @@ use Rattle.out.specs.declared.Written.{Written}
 use Rattle.out.specs.Answer.{written_as, Outputs}
 use Rattle.sheet.specs.declared.Loaded.{Loaded}
 use Rattle.sheet.specs.Loading.{Loads}
-use Rattle.columns.specs.Columns.{columns}
-use Rattle.outputs.specs.declared.Output.{Output}
-use Rattle.outputs.specs.Output.{output_of}
-use Rattle.promises.proofs.Contracts.{WritesListing, WritesConfirmed, WritesColumns, WritesTotals, WritesSheet, WritesAir, WritesOutput}
 
 -- the parts of an answer and its buffer
 pub written_is : (r : Written) (new : List ℕ) (o : Outcome) (n : ℕ) (b : List ℕ) → written_as r new ≡ record { outcome = o; size = n; buffer = b }
@@ -58,31 +50,6 @@ module _ (F : Content → List ℕ) (t : Table) (old : List ℕ) (r : Written) (
       (λ h. let q = written_is r new ShortBuffer 0 old (p ∙ rw h) in too_short c m e (ltb-true _ _ h) q.0 q.1 q.2)
       (λ h. let q = written_is r new Done (length (F c)) (F c ++ drop (length (F c)) old) (p ∙ rw h) in written c m e (ltb-false _ _ h) q.0 q.1 q.2)
   write_answers (not_stored n p) = let q = written_is r new WrongTable 0 old p in no_table n q.0 q.1 q.2
-
-pub write_listing_answers : (t : Table) (over : ℕ) (old : List ℕ) (r : Written) (new : List ℕ)
-    → WritesListing t over old r new → WriteAnswer (λ c. listing c over) t old r new
-write_listing_answers t over = write_answers (λ c. listing c over) t
-
-pub write_confirmed_answers : (t : Table) (over : ℕ) (old : List ℕ) (r : Written) (new : List ℕ)
-    → WritesConfirmed t over old r new → WriteAnswer (λ c. confirmed_listing c over) t old r new
-write_confirmed_answers t over = write_answers (λ c. confirmed_listing c over) t
-
-pub write_columns_answers : (t : Table) (csv numbered : Bool) (old : List ℕ) (r : Written) (new : List ℕ)
-    → WritesColumns t csv numbered old r new → WriteAnswer (columns csv numbered) t old r new
-write_columns_answers t csv numbered = write_answers (columns csv numbered) t
-
-pub write_totals_answers : (t : Table) (old : List ℕ) (r : Written) (new : List ℕ) → WritesTotals t old r new → WriteAnswer totals_text t old r new
-write_totals_answers = write_answers totals_text
-
-pub write_sheet_answers : (t : Table) (old : List ℕ) (r : Written) (new : List ℕ) → WritesSheet t old r new → WriteAnswer sheet t old r new
-write_sheet_answers = write_answers sheet
-
-pub write_air_answers : (t : Table) (old : List ℕ) (r : Written) (new : List ℕ) → WritesAir t old r new → WriteAnswer air t old r new
-write_air_answers = write_answers air
-
-pub write_output_answers : (o : Output) (t : Table) (over : ℕ) (old : List ℕ) (r : Written) (new : List ℕ)
-    → WritesOutput o t over old r new → WriteAnswer (output_of o over) t old r new
-write_output_answers o t over = write_answers (output_of o over) t
 
 pub data LoadAnswer (bytes : List ℕ) (r : Loaded) : Type 0 where
   -- 0: some table writes these bytes; what it shows is held
