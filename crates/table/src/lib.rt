@@ -16,7 +16,7 @@ use sets::Sets;
 use totals::Totals;
 
 // What a table holds: its sets, the totals of those that it shows, and how many blocks were read into it.
-#[derive(Drop)]
+#[derive(Clone, Copy)]
 pub struct Table {
     pub sets: Sets,
     pub totals: Totals,
@@ -82,7 +82,7 @@ impl Table {
 // ---- the totals
 
 // What asking for the totals answers.
-#[derive(Drop)]
+#[derive(Clone, Copy)]
 pub struct Counted {
     pub outcome: Outcome,
     pub totals: Totals,
@@ -110,7 +110,7 @@ impl Table {
 // ---- forgetting
 
 // What forgetting a key answers and leaves.
-#[derive(Drop)]
+#[derive(Clone, Copy)]
 pub struct Forgotten {
     pub outcome: Outcome,
     pub table: Table,
@@ -173,7 +173,7 @@ fn copy_u8(from: &[u8], n: usize, to: &mut [u8])
 
 // What copying a set out answers: `confirmed` is the number of the block at which the set was last shown, 0 for none since it was
 // loaded. The identifiers go into the lent buffers.
-#[derive(Drop)]
+#[derive(Clone, Copy)]
 pub struct Copied {
     pub outcome: Outcome,
     pub key: u32,
