@@ -22,7 +22,7 @@ use table::Table;
 
 // A piece of a set: its identifiers are those at the places from `from` up to `to`. It is a start if it
 // begins at place 0.
-#[derive(Drop)]
+#[derive(Clone, Copy)]
 struct Part {
     from: usize,
     to: usize,

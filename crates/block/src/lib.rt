@@ -14,7 +14,7 @@ use servicefield::{ServiceField, ServiceStep};
 
 // Where a field of a taken block stands: its FIG's body fib[start..end], its place in that body, and whether it is one of services
 // in other ensembles. Four bytes, which are copied with the block's verdict; the field itself is read again there.
-#[derive(Drop)]
+#[derive(Clone, Copy)]
 pub struct Spot {
     pub start: u8,
     pub end: u8,
@@ -23,7 +23,7 @@ pub struct Spot {
 }
 
 // The fields of a block, in order: the first count places, with nothing in the others. A block has 14 at most.
-#[derive(Drop)]
+#[derive(Clone, Copy)]
 pub struct Spots {
     pub spots: [Spot; 14],
     pub count: usize,
@@ -31,7 +31,7 @@ pub struct Spots {
 
 // What a block is judged to be. A refused block has a place, counted from 0 in the block, which is 0 where its check fails, and no
 // fields; any other has the place 0.
-#[derive(Drop)]
+#[derive(Clone, Copy)]
 pub struct Judged {
     pub outcome: Outcome,
     pub place: usize,
@@ -40,14 +40,14 @@ pub struct Judged {
 
 // A fault of a field: its class (4 the field does not fit, 5 a wrong value, 6 an empty start, 7 none), and the field's place in the
 // block.
-#[derive(Drop)]
+#[derive(Clone, Copy)]
 struct Fault {
     class: u8,
     place: usize,
 }
 
 // What has been found in the FIGs so far: the first fault of the smallest class, and the fields.
-#[derive(Drop)]
+#[derive(Clone, Copy)]
 struct Pushed {
     fault: Fault,
     spots: Spots,

@@ -21,7 +21,7 @@ use table::Table;
 
 // What the rows of a set have in common: their form, whether they are numbered, and the set's key, its on
 // or off and its number.
-#[derive(Drop)]
+#[derive(Clone, Copy)]
 struct Rows {
     csv: bool,
     numbered: bool,

@@ -10,7 +10,7 @@ ghost use Rattle.ensembles.specs.Stored.{empty_list, Holds};
 
 // The numbers of `len` ensembles, in order. Every place past them is zero. Length 0 means that there is
 // no list.
-#[derive(Drop)]
+#[derive(Clone, Copy)]
 pub struct Ensembles {
     pub numbers: [u16; Ensembles::MOST],
     pub len: usize,

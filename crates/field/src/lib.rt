@@ -20,19 +20,19 @@ ghost use Rattle.field.specs.FieldStep.{
 };
 
 // A DAB service number.
-#[derive(Drop)]
+#[derive(Clone, Copy)]
 pub struct Service(pub u32);
 
 // An RDS PI code.
-#[derive(Drop)]
+#[derive(Clone, Copy)]
 pub struct Pi(pub u32);
 
 // A DRM or AMSS service.
-#[derive(Drop)]
+#[derive(Clone, Copy)]
 pub struct Amss(pub u32);
 
 // An identifier, with its kind.
-#[derive(Drop)]
+#[derive(Clone, Copy)]
 pub enum Identifier {
     Dab(Service),
     Rds(Pi),
@@ -40,7 +40,7 @@ pub enum Identifier {
 }
 
 // A field's head. Its identifiers are count numbers of its width, from place from of the FIG's body.
-#[derive(Drop)]
+#[derive(Clone, Copy)]
 pub struct Field {
     pub cn: u8,
     pub oe: u8,
@@ -58,7 +58,7 @@ pub struct Field {
 }
 
 // What stands at a place of a body.
-#[derive(Drop)]
+#[derive(Clone, Copy)]
 pub enum FieldStep {
     // A field, and the place after it.
     Found(Field, usize),

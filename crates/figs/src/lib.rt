@@ -4,13 +4,13 @@ ghost use Rattle.std.specs.Prelude.{◌≡◌};
 ghost use Rattle.figs.specs.Figs.{step_at};
 
 // A place in a block: the number of bytes before it.
-#[derive(Drop)]
+#[derive(Clone, Copy)]
 pub struct Cursor {
     pub at: usize,
 }
 
 // What stands at a place.
-#[derive(Drop)]
+#[derive(Clone, Copy)]
 pub enum FigStep {
     // A FIG: its type, its body fib[start..end], and the place after it.
     Fig {

@@ -59,7 +59,7 @@ pub fn forget_service(table: Table, oe: u8, pd: u8, number: u32) -> Forgotten
 // ---- copying out
 
 // What copying a service out answers: how many ensembles it is found in. These go into the lent buffer.
-#[derive(Drop)]
+#[derive(Clone, Copy)]
 pub struct CopiedService {
     pub outcome: Outcome,
     pub count: usize,

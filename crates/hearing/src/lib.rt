@@ -14,7 +14,7 @@ use servicefield::ServiceField;
 const MOST_SERVICES: usize = 64;
 
 // What adding hands back: the list with a field's ensembles, or no list; and whether all fit.
-#[derive(Drop)]
+#[derive(Clone, Copy)]
 pub struct Grown {
     pub list: Ensembles,
     pub fits: bool,
@@ -49,7 +49,7 @@ pub fn with_field(list: Ensembles, body: &[u8], f: ServiceField) -> Grown
 }
 
 // What a field leaves of a held service's two lists, and the note.
-#[derive(Drop)]
+#[derive(Clone, Copy)]
 pub struct HeldStep {
     pub shown: Ensembles,
     pub draft: Ensembles,

@@ -14,7 +14,7 @@ use report::{Told, put_block, put_counts};
 
 // What is known of a recording that was checked: what it left, how many of its blocks are refused, and whether all that is to be
 // told of it was written.
-#[derive(Drop)]
+#[derive(Clone, Copy)]
 pub struct Checked {
     pub received: Received,
     pub refused: usize,
@@ -22,7 +22,7 @@ pub struct Checked {
 }
 
 // That, and whether the input may go on.
-#[derive(Drop)]
+#[derive(Clone, Copy)]
 struct CheckTurn {
     checked: Checked,
     more: bool,
@@ -57,7 +57,7 @@ fn write_lines<'a>(output: i32, before: Received, chunk: &'a [u8], lines: &'a [u
 }
 
 // How many of some blocks are refused, and whether their lines were written.
-#[derive(Drop)]
+#[derive(Clone, Copy)]
 struct Spoken {
     refused: usize,
     written: bool,

@@ -16,7 +16,7 @@ use table::Table;
 
 // How many bytes stand at the front of a buffer, and whether the read after them failed. Where it did not, the buffer is
 // full, the input has ended or the blocks that come next are there.
-#[derive(Drop)]
+#[derive(Clone, Copy)]
 pub struct Filled {
     pub size: usize,
     pub failed: bool,
@@ -79,7 +79,7 @@ pub fn some_holds(bytes: &[u8]) -> bool
 // What a recording left: the table, which meets the rules, the bytes after its last whole block, how many of its starts found no
 // room, how many of its blocks were refused, how many bytes there were, whether the check of some block held, and whether a read
 // failed: then this is of a part of the recording only.
-#[derive(Drop)]
+#[derive(Clone, Copy)]
 pub struct Received {
     pub table: Table,
     pub rest: usize,
@@ -91,7 +91,7 @@ pub struct Received {
 }
 
 // That, and whether the input may go on.
-#[derive(Drop)]
+#[derive(Clone, Copy)]
 pub(crate) struct Turn {
     pub(crate) received: Received,
     pub(crate) more: bool,
@@ -211,7 +211,7 @@ pub fn receive(input: i32, whole: usize) -> Received
 // ---- a sheet
 
 // A sheet as it was loaded, how many bytes it had, and whether a read failed: then this is of a part of the input only.
-#[derive(Drop)]
+#[derive(Clone, Copy)]
 pub struct Fetched {
     pub loaded: Loaded,
     pub size: usize,

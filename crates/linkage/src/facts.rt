@@ -4,7 +4,7 @@ use libc::types::{stat, timespec};
 
 // What is known of an open file: its kind and mode, whose it is, which file of which device, and its size. Where nothing could
 // be learned, `known` is false and the rest means nothing.
-#[derive(Drop)]
+#[derive(Clone, Copy)]
 pub(crate) struct Facts {
     pub known: bool,
     pub kind: u32,

@@ -13,7 +13,7 @@ use reader::FigReader;
 
 // What a walk found so far: the type and the length of the body of each FIG, in order, how many FIGs, and whether it ended at a
 // wrong one; and how many steps may still be made.
-#[derive(Drop)]
+#[derive(Clone, Copy)]
 struct Walked {
     kinds: [u8; 31],
     sizes: [usize; 31],
@@ -166,7 +166,7 @@ fn write_chunk(number: usize, chunk: &[u8]) -> bool
 
 // What came of listing: how many bytes were read, whether the check of some block held, whether the last read failed, whether
 // all was written, and whether the input may go on.
-#[derive(Drop)]
+#[derive(Clone, Copy)]
 pub(crate) struct Listed {
     pub size: usize,
     pub good: bool,

@@ -43,7 +43,7 @@ fn kept_before(link: &[u8; 4096], path: &[u8]) -> usize {
 }
 
 // A path at the front of a buffer by its length, and whether it may be a link: no more where the end of its links is reached.
-#[derive(Drop)]
+#[derive(Clone, Copy)]
 struct Followed {
     size: usize,
     more: bool,

@@ -5,7 +5,7 @@ use check::same;
 use libc::STDIN_FILENO;
 
 // An open input, what is known of it, and whether it was named; `fd` is -1 where it cannot be read, which has been said then.
-#[derive(Drop)]
+#[derive(Clone, Copy)]
 pub(crate) struct Source {
     pub fd: i32,
     pub named: bool,
@@ -13,7 +13,7 @@ pub(crate) struct Source {
 }
 
 // A file's name at the front of a buffer, and its length; `standard` where it stands for standard input or output.
-#[derive(Drop)]
+#[derive(Clone, Copy)]
 pub(crate) struct Name {
     pub size: usize,
     pub standard: bool,

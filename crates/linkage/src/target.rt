@@ -12,7 +12,7 @@ use outputs::Output;
 // Where the output goes: to an open file `fd`, or, where that is -1, into a file of its own, in place of an old one where `old`
 // is known. Its name is left in a buffer, `size` bytes. `force` says that a file which comes to be there in the meantime may go.
 // `good` is false where nothing can be written there, which has been said then.
-#[derive(Drop)]
+#[derive(Clone, Copy)]
 pub(crate) struct Target {
     pub good: bool,
     pub fd: i32,
@@ -140,7 +140,7 @@ fn put_part(path: &[u8], k: usize, part: &mut [u8]) -> usize {
 
 // A new file beside another, open for writing, by the length of its path, which is left in a buffer; `taken` where there is a
 // file of that name already.
-#[derive(Drop)]
+#[derive(Clone, Copy)]
 struct Part {
     fd: i32,
     size: usize,

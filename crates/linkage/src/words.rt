@@ -4,7 +4,7 @@ use crate::say::say;
 use check::same;
 
 // What is asked for.
-#[derive(Drop)]
+#[derive(Clone, Copy)]
 pub(crate) enum Action {
     List,
     Sheet,
@@ -21,7 +21,7 @@ pub(crate) enum Action {
 // What the words after the action ask for. Files are places among the arguments, 0 where none is named. `wants` says that the
 // next word is the output's name, `plain` that every further word is a file's. `fault` is the first thing wrong, and `at` the
 // place of its word.
-#[derive(Drop)]
+#[derive(Clone, Copy)]
 pub(crate) struct Options {
     pub confirmed: bool,
     pub table: bool,

@@ -14,7 +14,7 @@ use field::Field;
 
 // Numbers and kinds of `len` identifiers, in order, and the kinds that the list names: 1 RDS plus
 // 2 DRM or AMSS. Every place past them is zero. Length 0 means that there is no list.
-#[derive(Drop)]
+#[derive(Clone, Copy)]
 pub struct IdList {
     pub numbers: [u32; IdList::MOST],
     pub kinds: [u8; IdList::MOST],
@@ -272,7 +272,7 @@ impl IdList {
 // ---- adding a field's identifiers
 
 // What adding hands back: the list with them, or no list; and whether all fit.
-#[derive(Drop)]
+#[derive(Clone, Copy)]
 pub struct Grown {
     pub list: IdList,
     pub fits: bool,

@@ -10,7 +10,7 @@ ghost use Rattle.out.specs.Put.{Puts};
 use rules::Outcome;
 
 // The answer of a function that writes an output: its outcome, and how many bytes were written.
-#[derive(Drop)]
+#[derive(Clone, Copy)]
 pub struct Written {
     pub outcome: Outcome,
     pub size: usize,

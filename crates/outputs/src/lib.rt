@@ -9,7 +9,7 @@ use table::Table;
 // What is asked for: the sets in lines, without the numbers or with them; in columns for eyes or for a spreadsheet, of a recording
 // with the numbers, and of a sheet, which has none, without; the totals, the stored sheet, or blocks for air; the services in lines, or
 // as blocks for air.
-#[derive(Drop)]
+#[derive(Clone, Copy)]
 pub enum Output {
     Lines,
     Confirmed,

@@ -9,7 +9,7 @@ ghost use Rattle.reader.specs.Reader.{place_after, Stepped};
 use figs::{Cursor, FigStep};
 
 // A place in a block that is lent to the reader.
-#[derive(Drop)]
+#[derive(Clone, Copy)]
 pub struct FigReader<'a> {
     pub fib: &'a [u8],
     pub at: usize,

@@ -57,13 +57,13 @@ fn unheld_note(f: Field) -> Note
 }
 
 // One note of a block.
-#[derive(Drop)]
+#[derive(Clone, Copy)]
 pub struct Noted {
     pub note: Note,
 }
 
 // The notes of a taken block, one a field: the first `count` places.
-#[derive(Drop)]
+#[derive(Clone, Copy)]
 pub struct Notes {
     pub notes: [Noted; 14],
     pub count: usize,
@@ -156,7 +156,7 @@ fn confirmed_by(note: Note, before: u32, block: u32) -> u32
 
 // The answer to a block: its outcome, the place where a refused block broke and else 0, one note a field where it is taken, and
 // the table then.
-#[derive(Drop)]
+#[derive(Clone, Copy)]
 pub struct Answer {
     pub outcome: Outcome,
     pub place: usize,
@@ -165,7 +165,7 @@ pub struct Answer {
 }
 
 // What is said of the present block, so far; and of all blocks how many starts found no room, and how many were refused.
-#[derive(Drop)]
+#[derive(Clone, Copy)]
 struct Reply {
     outcome: Outcome,
     place: usize,
@@ -234,7 +234,7 @@ impl Reply {
 }
 
 // What blocks one after another come to: what is said of the last, and the table then.
-#[derive(Drop)]
+#[derive(Clone, Copy)]
 struct Run {
     reply: Reply,
     table: Table,
@@ -448,7 +448,7 @@ pub fn read_block(table: Table, fib: &[u8]) -> Answer
 
 // What reading a whole recording leaves: 0 or 9, how many bytes were left over, how many starts found no room, how many blocks were
 // refused, and the table.
-#[derive(Drop)]
+#[derive(Clone, Copy)]
 pub struct Recorded {
     pub outcome: Outcome,
     pub rest: usize,

@@ -17,14 +17,14 @@ use table::Table;
 pub(crate) const PLACES: usize = Table::KEYS * IdList::MOST;
 
 // How many identifiers a row holds, and the kinds that it names.
-#[derive(Drop)]
+#[derive(Clone, Copy)]
 pub(crate) struct Row {
     pub(crate) len: usize,
     pub(crate) named: u8,
 }
 
 // The same of all 32 rows, and which may differ from the lists that were laid out in them.
-#[derive(Drop)]
+#[derive(Clone, Copy)]
 pub(crate) struct Rows {
     pub(crate) lens: [usize; Table::KEYS],
     pub(crate) names: [u8; Table::KEYS],
@@ -154,7 +154,7 @@ pub(crate) fn scatter(lists: [IdList; Table::KEYS], numbers: &mut [u32], kinds: 
 }
 
 // What adding a field's identifiers to a row leaves of it, and whether all fit.
-#[derive(Drop)]
+#[derive(Clone, Copy)]
 struct Appended {
     row: Row,
     fits: bool,
@@ -195,7 +195,7 @@ fn append(numbers: &mut [u32], kinds: &mut [u8], row: Row, body: &[u8], f: Field
 }
 
 // What a field leaves of a held key's two rows, and the note.
-#[derive(Drop)]
+#[derive(Clone, Copy)]
 pub(crate) struct Stepped {
     pub(crate) shown: Row,
     pub(crate) draft: Row,

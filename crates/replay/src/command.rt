@@ -9,7 +9,7 @@ use table::{Copied, Table};
 
 // What becomes of the table after a command: it is the one that the command leaves, and with Mark the
 // one before is remembered; with Back it is the remembered one, if there is any.
-#[derive(Drop)]
+#[derive(Clone, Copy)]
 pub enum Next {
     Go,
     Mark,
@@ -18,7 +18,7 @@ pub enum Next {
 
 // What a command leaves: a table, what becomes of it, and how many bytes of answer stand at the front
 // of the buffer.
-#[derive(Drop)]
+#[derive(Clone, Copy)]
 pub struct Step {
     pub table: Table,
     pub next: Next,

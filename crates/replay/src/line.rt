@@ -61,7 +61,7 @@ pub(crate) fn digit_of(byte: u8) -> u32
 }
 
 // A number of a line, and whether it is one.
-#[derive(Drop)]
+#[derive(Clone, Copy)]
 pub struct Number {
     pub good: bool,
     pub value: usize,
@@ -129,7 +129,7 @@ pub(crate) fn count_at(line: &[u8], from: usize, to: usize, most: usize) -> Numb
 }
 
 // A key of a line, and whether it is one.
-#[derive(Drop)]
+#[derive(Clone, Copy)]
 pub struct Key {
     pub good: bool,
     pub key: u32,

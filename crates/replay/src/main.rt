@@ -14,7 +14,7 @@ use table::Table;
 
 // Where the input stands: the place in the chunk, how much of the chunk was read, the length of the
 // line so far, whether that is the whole line, whether the input is over, and whether reading it failed.
-#[derive(Drop)]
+#[derive(Clone, Copy)]
 struct Place {
     at: usize,
     got: usize,
@@ -25,7 +25,7 @@ struct Place {
 }
 
 // The table, the remembered one, whether any was remembered, and whether the run is over.
-#[derive(Drop)]
+#[derive(Clone, Copy)]
 struct State {
     table: Table,
     before: Table,
@@ -75,7 +75,7 @@ fn gather(line: &mut [u8], len: usize, chunk: &[u8], from: usize, to: usize) -> 
 }
 
 // What is left of a chunk: from a place on, up to the end of what was read; and whether reading it failed.
-#[derive(Drop)]
+#[derive(Clone, Copy)]
 struct Rest {
     at: usize,
     got: usize,

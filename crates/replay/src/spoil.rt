@@ -9,14 +9,14 @@ use table::Table;
 use totals::Totals;
 
 // Whether the table had what the way needs, and the table with the assignment made.
-#[derive(Drop)]
+#[derive(Clone, Copy)]
 pub struct Spoilt {
     pub done: bool,
     pub table: Table,
 }
 
 // The same of its sets.
-#[derive(Drop)]
+#[derive(Clone, Copy)]
 struct SpoiltSets {
     done: bool,
     sets: Sets,
@@ -193,7 +193,7 @@ fn spoil_list(way: usize, key: u32, list: IdList) -> IdList {
 }
 
 // Whether a list had what the way needs, and the lists with the assignment made.
-#[derive(Drop)]
+#[derive(Clone, Copy)]
 struct Lists {
     done: bool,
     lists: [IdList; 32],

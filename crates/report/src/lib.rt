@@ -63,7 +63,7 @@ pub fn put_refusal(out: &mut [u8], at: usize, block: usize, outcome: Outcome, pl
 // ---- the lines of blocks
 
 // What was put of some blocks: the place after their lines, and how many of them are refused.
-#[derive(Drop)]
+#[derive(Clone, Copy)]
 pub struct Told {
     pub next: usize,
     pub refused: usize,

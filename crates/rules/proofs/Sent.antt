@@ -26,7 +26,7 @@ module _ (F : Family) (L : Lawful F) where
   before_other j k h = differ_sym F L j k (before_differ F L j k h)
 
   pub before_not : (j k : Key) → key_before j k ≡ true → key_before k j ≡ false
-  before_not j k h = cases_bool (key_before k j) (λ b. true-false (L.before_trans j k j h b) (L.Before-self j)) (λ b. b)
+  before_not j k h = cases_bool (key_before k j) (λ b. true-false (L.before_trans j k j h b) (L.before_self j)) (λ b. b)
 
   pub find_at : (k : Key) (e : Entry F) (pre post : List (Entry F)) → KeysBefore F k pre → e.key ≡ k → find F k (pre ++ e ∷ post) ≡ some e
   find_at k e [] post h i = find_here F L k e post (rw i (L.same_self k))

@@ -5,7 +5,7 @@
 // 02's and wait for their requests.
 
 // The numbered outcomes (document 01, Numbered outcomes), in their order.
-#[derive(Drop)]
+#[derive(Clone, Copy)]
 pub enum Outcome {
     // 0: done
     Done,
@@ -40,7 +40,7 @@ pub enum Outcome {
 }
 
 // What one field of a taken block did (document 01, Collecting).
-#[derive(Drop)]
+#[derive(Clone, Copy)]
 pub enum Note {
     // 1: a list opened
     Opened,

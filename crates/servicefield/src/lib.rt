@@ -16,7 +16,7 @@ ghost use Rattle.servicefield.specs.ServiceStep.{
 };
 
 // A field. Its ensembles are count numbers of two bytes, from place from of the FIG's body.
-#[derive(Drop)]
+#[derive(Clone, Copy)]
 pub struct ServiceField {
     pub cn: u8,
     pub oe: u8,
@@ -27,7 +27,7 @@ pub struct ServiceField {
 }
 
 // What stands at a place of a body.
-#[derive(Drop)]
+#[derive(Clone, Copy)]
 pub enum ServiceStep {
     // A field, and the place after it.
     Found(ServiceField, usize),

@@ -15,7 +15,7 @@ use ensembles::Ensembles;
 
 // The entries of the held services, in ascending key order from place 0 on: key, shown list and open
 // list. Every unused place is zero.
-#[derive(Drop)]
+#[derive(Clone, Copy)]
 pub struct Services {
     pub count: usize,
     pub keys: [u64; Services::MOST],

@@ -15,7 +15,7 @@ use lists::IdList;
 // The entries of the held keys, in ascending key order from place 0 on: key, on or off, the number of the
 // block at which the set was last shown (0 where none is shown, or none since it was loaded), shown set
 // and open list. Every unused place is zero.
-#[derive(Drop)]
+#[derive(Clone, Copy)]
 pub struct Sets {
     pub count: usize,
     pub keys: [u32; Sets::KEYS],

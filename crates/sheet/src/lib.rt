@@ -182,14 +182,14 @@ pub fn write_sheet(table: Table, out: &mut [u8]) -> Written
 // ---- loading
 
 // A number that was read and the place after it; or there is none that can stand there.
-#[derive(Drop)]
+#[derive(Clone, Copy)]
 enum ReadNumber {
     At(u32, usize),
     Wrong,
 }
 
 // What stands in front of a set's identifiers.
-#[derive(Drop)]
+#[derive(Clone, Copy)]
 struct SetHead {
     key: u32,
     on: bool,
@@ -197,21 +197,21 @@ struct SetHead {
     count: usize,
 }
 
-#[derive(Drop)]
+#[derive(Clone, Copy)]
 enum ReadHead {
     At(SetHead, usize),
     Wrong,
 }
 
 // An identifier: its kind and its number.
-#[derive(Drop)]
+#[derive(Clone, Copy)]
 enum ReadPair {
     At(u8, u32, usize),
     Wrong,
 }
 
 // A list that was read; where there is none, no list and place 0.
-#[derive(Drop)]
+#[derive(Clone, Copy)]
 struct ReadList {
     ok: bool,
     list: IdList,
@@ -219,7 +219,7 @@ struct ReadList {
 }
 
 // A set: its key, on or off, and its list.
-#[derive(Drop)]
+#[derive(Clone, Copy)]
 struct ReadSet {
     ok: bool,
     key: u32,
@@ -229,7 +229,7 @@ struct ReadSet {
 }
 
 // Sets that were read; where they are not sets, none and place 0.
-#[derive(Drop)]
+#[derive(Clone, Copy)]
 struct ReadSets {
     ok: bool,
     sets: Sets,
@@ -582,7 +582,7 @@ fn read_sets(count: usize, bytes: &[u8], at: usize) -> ReadSets
 }
 
 // A table that was loaded, with the outcome.
-#[derive(Drop)]
+#[derive(Clone, Copy)]
 pub struct Loaded {
     pub outcome: Outcome,
     pub table: Table,

@@ -18,7 +18,7 @@ use totals::Totals;
 
 // What a table holds: its sets, the totals of those that it shows, how many blocks were read into it, and the services in other
 // ensembles, which stand apart.
-#[derive(Drop)]
+#[derive(Clone, Copy)]
 pub struct Table {
     pub sets: Sets,
     pub totals: Totals,
@@ -90,7 +90,7 @@ impl Table {
 // ---- the totals
 
 // What asking for the totals answers.
-#[derive(Drop)]
+#[derive(Clone, Copy)]
 pub struct Counted {
     pub outcome: Outcome,
     pub totals: Totals,
@@ -118,7 +118,7 @@ impl Table {
 // ---- forgetting
 
 // What forgetting a key answers and leaves.
-#[derive(Drop)]
+#[derive(Clone, Copy)]
 pub struct Forgotten {
     pub outcome: Outcome,
     pub table: Table,
@@ -182,7 +182,7 @@ fn copy_u8(from: &[u8], n: usize, to: &mut [u8])
 
 // What copying a set out answers: `confirmed` is the number of the block at which the set was last shown, 0 for none since it was
 // loaded. The identifiers go into the lent buffers.
-#[derive(Drop)]
+#[derive(Clone, Copy)]
 pub struct Copied {
     pub outcome: Outcome,
     pub key: u32,

@@ -10,7 +10,7 @@ ghost use Rattle.totals.specs.Kept.{raised, of_set, alike, with_set, without_set
 use sets::Sets;
 
 // The three figures.
-#[derive(Drop)]
+#[derive(Clone, Copy)]
 pub struct Totals {
     pub shown: usize,
     pub on: usize,

@@ -1,0 +1,11 @@
+-- `hearing::with_field` meets its contract: what is left to add to the list so far makes the whole.
+use Prim.Native.Nat.{◌-◌, ◌≤◌, ◌<◌, ◌^◌}
+use mathlib.Core.Path.{◌≡◌}
+use Rattle.hearing.specs.Grown.{grown, field_ensembles}
+use Rattle.hearing.proofs.with_field.Given as goal
+
+abbrev pub invariant-loop-i : goal.invariant-loop-i
+invariant-loop-i l = (l.i ≤ l.count) × ((l.count < 2 ^ 64) × ((l.count ≡ l.f.count) × (grown l.next (field_ensembles l.body l.f l.i (l.count - l.i)) ≡ grown l.initial.next (field_ensembles l.body l.f 0 l.f.count))))
+
+abbrev pub decreases-loop-i : goal.decreases-loop-i
+decreases-loop-i l = l.count - l.i

@@ -1,0 +1,14 @@
+-- `lists::all_differ` meets its contract: the pairs from the present place on answer for all of them.
+use Prim.Native.Nat.{◌-◌, min}
+use mathlib.Core.Path.{◌≡◌}
+use lib.ListN.{length, drop}
+use Rattle.lists.specs.Stored.{pairs_in}
+use Rattle.rules.specs.Collecting.{all_differ}
+use Rattle.lists.proofs.all_differ.Given as goal
+
+abbrev pub invariant-loop-i : goal.invariant-loop-i
+invariant-loop-i l = (l.end ≡ min l.len (min (length l.kinds) (length l.numbers)))
+    × (all_differ (drop l.i (pairs_in l.kinds l.numbers l.len)) ≡ all_differ (pairs_in l.kinds l.numbers l.len))
+
+abbrev pub decreases-loop-i : goal.decreases-loop-i
+decreases-loop-i l = l.end - l.i

@@ -1,0 +1,11 @@
+-- `lists::zeros_u8` meets its contract: what was found so far and what is left to test answer for the whole.
+use Prim.Native.Nat.{◌-◌}
+use lib.ListN.{length}
+use Rattle.lists.proofs.Pairs.{Zeros}
+use Rattle.lists.proofs.zeros_u8.Given as goal
+
+abbrev pub invariant-loop-i : goal.invariant-loop-i
+invariant-loop-i l = Zeros l.bytes l.from l.zero l.i
+
+abbrev pub decreases-loop-i : goal.decreases-loop-i
+decreases-loop-i l = length l.bytes - l.i

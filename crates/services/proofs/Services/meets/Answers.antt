@@ -1,0 +1,43 @@
+-- `services::Services::meets` meets its contract: each test reads off one of the facts that stored services have, and together they
+-- are enough.
+use native.Mathlib.Omega.{arith}
+use mathlib.Core.Path.{◌≡◌, refl, sym, ◌∙◌}
+use lib.ListN.{length}
+use Rattle.rules.specs.Services.{most_services}
+use Rattle.rules.proofs.Basics.{length_of_map}
+use Rattle.lists.proofs.StoredLaws.{refuted, fails}
+use Rattle.services.proofs.ServicesLaws.{stored_facts, facts_stored}
+use borrow.Author.Rules.{rules}
+use Rattle.services.proofs.Services.meets.Goals as goal
+
+-- the given arrays have 64 places
+arrays : (c : goal.Start)
+    → (length c.args.self.keys ≡ most_services) × (length c.args.self.shown ≡ most_services) × (length c.args.self.draft ≡ most_services)
+arrays c = (search rules, search (length_of_map, rules), search (length_of_map, rules))
+
+pub returns-then-count-gt-MOST : goal.returns-then-count-gt-MOST
+returns-then-count-gt-MOST c = refuted _ (λ s. omega (arith, (stored_facts _ s).short))
+
+pub returns-then-not-keys_meet : goal.returns-then-not-keys_meet
+returns-then-not-keys_meet c = refuted _ (λ s. fails c.keys_meet.ensures c.if-not-keys_meet.true (stored_facts _ s).keys_meet_law)
+
+pub returns-then-not-zeros_u64 : goal.returns-then-not-zeros_u64
+returns-then-not-zeros_u64 c = refuted _ (λ s. fails c.zeros_u64.ensures c.if-not-zeros_u64.true (stored_facts _ s).keys_end)
+
+pub returns-then-not-lists_meet : goal.returns-then-not-lists_meet
+returns-then-not-lists_meet c = refuted _ (λ s. fails refl c.if-not-lists_meet.true (c.lists_meet.ensures.complete (stored_facts _ s).shown_hold))
+
+pub returns-then-not-none_from : goal.returns-then-not-none_from
+returns-then-not-none_from c = refuted _ (λ s. fails refl c.if-not-none_from.true (c.none_from.ensures.complete (stored_facts _ s).shown_end))
+
+pub returns-then-not-lists_meet-2 : goal.returns-then-not-lists_meet-2
+returns-then-not-lists_meet-2 c = refuted _ (λ s. fails refl c.if-not-lists_meet-2.true (c.lists_meet-2.ensures.complete (stored_facts _ s).draft_hold))
+
+pub returns : goal.returns
+returns c =
+    let long = arrays c in
+    record {
+      sound = λ e. facts_stored _
+          (record { short = c.if-count-gt-MOST.false; keys_meet_law = sym c.keys_meet.ensures ∙ c.if-not-keys_meet.false; keys_end = sym c.zeros_u64.ensures ∙ c.if-not-zeros_u64.false; shown_hold = c.lists_meet.ensures.sound c.if-not-lists_meet.false; shown_end = c.none_from.ensures.sound c.if-not-none_from.false; draft_hold = c.lists_meet-2.ensures.sound c.if-not-lists_meet-2.false; draft_end = c.none_from-2.ensures.sound e; }) long.0 long.1 long.2;
+      complete = λ s. c.none_from-2.ensures.complete (stored_facts _ s).draft_end;
+    }

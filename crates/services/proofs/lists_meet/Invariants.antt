@@ -1,0 +1,13 @@
+-- `services::lists_meet` meets its contract: the lists passed are what they should be.
+use Prim.Native.Nat.{ℕ, ◌-◌, ◌<◌, ◌≤◌}
+use lib.ListN.{get_or}
+use Rattle.rules.specs.Services.{most_services}
+use Rattle.ensembles.specs.Stored.{Holds}
+use Rattle.services.specs.Stored.{past}
+use Rattle.services.proofs.lists_meet.Given as goal
+
+abbrev pub invariant-loop-i : goal.invariant-loop-i
+invariant-loop-i l = (l.i ≤ most_services) × ((k : ℕ) → k < l.i → Holds (get_or l.lists k past))
+
+abbrev pub decreases-loop-i : goal.decreases-loop-i
+decreases-loop-i l = most_services - l.i

@@ -1,0 +1,13 @@
+-- `sets::numbers_meet` meets its contract: the places passed have no number without a list.
+use Prim.Native.Nat.{ℕ, ◌-◌, ◌<◌}
+use mathlib.Core.Path.{◌≡◌}
+use lib.ListN.{get_or}
+use Rattle.rules.specs.Collecting.{most_keys}
+use Rattle.sets.specs.Stored.{past}
+use Rattle.sets.proofs.numbers_meet.Given as goal
+
+abbrev pub invariant-loop-i : goal.invariant-loop-i
+invariant-loop-i l = (k : ℕ) → k < l.i → (get_or l.lists k past).len ≡ 0 → get_or l.numbers k 0 ≡ 0
+
+abbrev pub decreases-loop-i : goal.decreases-loop-i
+decreases-loop-i l = most_keys - l.i
