@@ -4,8 +4,9 @@
 usage: python3 tools/turn_proofs.py CRATE NAMES [FN..]
 
 CRATE is a crate's folder, in the spelling that the toolchain's port script left, and NAMES the names.json that `rt names DIR` wrote for it: each
-step, goal and place by its older name and by today's. It made what the crates have today, but for what did not fit, and waits for the
-unfinished R-4; it goes when that has been taken up. What it cannot turn it prints; the check says what is left:
+step, goal and place by its older name and by today's. A first form of it turned the proofs that the crates have today, about half of which were then changed
+by hand or made shorter; this one waits for the unfinished R-4, and goes when that has been taken up. It prints what it cannot turn, and proves nothing: the
+check says what is left, as
 
 - a helper over a place at which no goal stands: places are different types now, so it is written into its answers or takes plain arguments;
 - joins: `⊎_elim (λ w. A) (λ w. B) c.if-X.branch` becomes an `elim` with named arms, whose positions w.1, w.2 .. are named by hand;
@@ -16,8 +17,8 @@ import os
 import re
 import sys
 
-ID = r"[A-Za-z_][\w'₀-₉′·]*"
-SEG = r"[\w'₀-₉′·-]+"
+ID = r"(?:«\w+»|[A-Za-z_][\w'₀-₉′·]*)"
+SEG = r"(?:«\w+»|[\w'₀-₉′·-]+)"
 CHAIN = re.compile(rf"(?<![\w.'-])({ID})((?:\.{SEG})+)")
 SIGNATURE = re.compile(r"^(abbrev )?(pub )?(\S+) : \(?tie\.(Need-|invariant-|decreases-)(\S+)")
 # What Rattle finds alone.
