@@ -1,5 +1,3 @@
--- `reading::run_blocks` meets its contract: each takes one field of the present block or judges the next block, and what is
--- left to do makes the whole. The turns are those of RunRows.antt.
 use Prim.Native.Nat.{ℕ, ◌+◌, ◌-◌, ◌<◌, ◌^◌}
 use native.Mathlib.Omega.{arith}
 use mathlib.Core.Path.{ap, ◌≡◌, sym, ◌∙◌}
