@@ -1,59 +1,71 @@
--- A piece as a block (document 01, Writing for air). In order: eight bits to a byte; its FIG byte by byte; the block that is made
+-- A piece as a block (document 01, Writing for air). In order: a number in bytes; its FIG byte by byte; the block that is made
 -- in an array of zeros.
 use Prim.Native.Nat.{ℕ, zero, suc, ◌+◌, ◌-◌, ◌*◌, ◌/◌, ◌%◌, ◌^◌, ◌≤◌}
-use native.Mathlib.Nat.{le_of_suc-le-suc, mul-suc, pow-suc}
+use native.Mathlib.Nat.{le_of_suc-le-suc}
 use native.Mathlib.Omega.{arith}
 use mathlib.Core.Path.{◌≡◌, refl, sym, ap, ◌∙◌}
-use mathlib.Core.Bool.{Bool, not}
+use mathlib.Core.Bool.{Bool, true, false}
 use mathlib.Core.List.{List, [], ◌∷◌, ◌++◌, append_assoc, append-nil}
 use lib.ListN.{length, take, drop, set, replicate, length-append, drop_of_length-le}
-use lib.Pow.{pow-add}
-use lib.Dec.{eqb}
-use lib.Seq.{slice, length-slice, take-append-add, sets-eq}
+use lib.Seq.{take-append-add, sets-eq, length-take-le}
 use Rattle.rules.specs.Block.{bit, check_of}
 use Rattle.rules.specs.Collecting.{key_width}
-use Rattle.pieces.specs.Air.{all_bytes, field_bytes, fig_bytes, block_of}
-use Rattle.pieces.proofs.BlockBack.{all_length, fig_length}
+use Rattle.std.specs.Int.{from_bool, bytes_high_first}
+use Rattle.pieces.specs.Air.{Piece, piece_most, big_bytes, all_bytes, field_bytes, fig_bytes, block_of}
+use Rattle.pieces.proofs.BlockBack.{all_length, ids_few}
 use Rattle.out.specs.Put.{Puts}
-use Rattle.out.proofs.Runs.{puts_length, puts_then}
+use Rattle.out.proofs.Runs.{puts_length}
 use Rattle.out.proofs.Answers.{sets_front}
-use Rattle.air.specs.declared.Part.{Part}
-use Rattle.air.specs.Parts.{piece_in, Fitting}
 
--- eight bits to a byte
-pub eight_bits : (k : ℕ) → 2 ^ (8 * k) ≡ 256 ^ k
-eight_bits zero = refl
-eight_bits (suc k) =
-    ap (λ (m : ℕ). 2 ^ m) (mul-suc 8 k) ∙ pow-add 2 (8 * k) 8 ∙ ap (λ (m : ℕ). m * 256) (eight_bits k) ∙ sym (pow-suc 256 k)
+-- a number in this many bytes, and in the last of four
+high_bytes : (w n : ℕ) → bytes_high_first w n ≡ big_bytes w n
+unfolding big_bytes
+high_bytes zero n = refl
+high_bytes (suc zero) n = let one : n ≡ n / 1 = omega arith in ap (λ (m : ℕ). m % 256 ∷ []) one
+high_bytes (suc (suc w)) n = ap (◌∷◌ (n / 256 ^ suc w % 256)) (high_bytes (suc w) n)
+
+last_four : (w n : ℕ) → w ≤ 4 → take (4 - (4 - w)) (drop (4 - w) (bytes_high_first 4 n)) ≡ bytes_high_first w n
+last_four zero n h = refl
+last_four (suc zero) n h = refl
+last_four (suc (suc zero)) n h = refl
+last_four (suc (suc (suc zero))) n h = refl
+last_four (suc (suc (suc (suc zero)))) n h = refl
+last_four (suc (suc (suc (suc (suc w))))) n h = absurd (omega arith)
+
+pub last_bytes : (w n : ℕ) {bs : List ℕ} → w ≤ 4 → bs ≡ bytes_high_first 4 n → take (4 - (4 - w)) (drop (4 - w) bs) ≡ big_bytes w n
+last_bytes w n h e = ap (λ (bs : List ℕ). take (4 - (4 - w)) (drop (4 - w) bs)) e ∙ last_four w n h ∙ high_bytes w n
+
+-- a flag as a bit
+pub bit_from : (b : Bool) → from_bool b ≡ bit b
+unfolding bit
+bit_from true = refl
+bit_from false = refl
+
+-- its numbers have 24 bytes at most
+pub numbers_few : (key w n : ℕ) → w ≡ key_width key → n ≤ piece_most (key_width key) → n * w ≤ 24
+numbers_few key w n e h = rw e (ids_few key n h)
 
 -- the FIG of a piece, byte by byte
-pub fig_made : (key : ℕ) (on : Bool) (p : Part) (ns : List ℕ) (w count more state : ℕ) → w ≡ key_width key → count ≡ p.to - p.from → p.to ≤ length ns
-    → more ≡ bit (not (eqb p.from 0)) → state ≡ bit on
-    → (4 + count * w)
+pub fig_made : (key : ℕ) (on : Bool) (c : Piece) (w more state : ℕ) → w ≡ key_width key → more ≡ from_bool c.more → state ≡ from_bool on
+    → (4 + length c.numbers * w)
     ∷ (more * 128 + key / 32768 % 2 * 64 + key / 16384 % 2 * 32 + 6)
     ∷ (128 + state * 64 + key / 8192 % 2 * 32 + key / 4096 % 2 * 16 + key % 4096 / 256)
     ∷ (key % 256)
-    ∷ (p.qualifier * 32 + count)
-    ∷ all_bytes w (slice p.from p.to ns)
-    ≡ fig_bytes key on (piece_in ns p)
-unfolding fig_bytes field_bytes piece_in
-fig_made key on p ns w count more state ew ec h em es =
-    let xs : List ℕ = slice p.from p.to ns in
-    let n : count ≡ length xs = ec ∙ sym (length-slice p.from p.to ns h) in
-    let size : 4 + count * w ≡ length (field_bytes key on (piece_in ns p)) =
-    rw (n, ew) (omega (arith, all_length (key_width key) xs)) in
+    ∷ (c.qualifier * 32 + length c.numbers)
+    ∷ all_bytes w c.numbers
+    ≡ fig_bytes key on c
+unfolding fig_bytes field_bytes
+fig_made key on c w more state ew em es =
+    let size : 4 + length c.numbers * w ≡ length (field_bytes key on c) = rw ew (omega (arith, all_length (key_width key) c.numbers)) in
+    let m : more ≡ bit c.more = em ∙ bit_from c.more in
+    let s : state ≡ bit on = es ∙ bit_from on in
     λ i.
     size i
-    ∷ (em i * 128 + key / 32768 % 2 * 64 + key / 16384 % 2 * 32 + 6)
-    ∷ (128 + es i * 64 + key / 8192 % 2 * 32 + key / 4096 % 2 * 16 + key % 4096 / 256)
+    ∷ (m i * 128 + key / 32768 % 2 * 64 + key / 16384 % 2 * 32 + 6)
+    ∷ (128 + s i * 64 + key / 8192 % 2 * 32 + key / 4096 % 2 * 16 + key % 4096 / 256)
     ∷ (key % 256)
-    ∷ (p.qualifier * 32 + n i)
-    ∷ all_bytes (ew i) xs
-
--- it has 29 bytes at most
-pub piece_few : (key : ℕ) (on : Bool) (p : Part) (ns : List ℕ) → Fitting key (length ns) p → length (fig_bytes key on (piece_in ns p)) ≤ 29
-unfolding piece_in
-piece_few key on p ns f = fig_length key on (piece_in ns p) (rw (length-slice p.from p.to ns f.inside) (omega (arith, f.few)))
+    ∷ (c.qualifier * 32 + length c.numbers)
+    ∷ all_bytes (ew i) c.numbers
 
 -- ---- the block around it
 
@@ -81,25 +93,27 @@ data_front fs n h g =
     ∙ ap (λ (r : List ℕ). fs ++ 255 ∷ r) (zeros_take (29 - length fs) n (omega arith))
 
 -- a FIG and FF are put into 32 zeros
-module _ (fs : List ℕ) (few : length fs ≤ 29) {m n : List ℕ} {j k : ℕ} (fig : Puts (replicate 32 0) 0 fs m j) (end' : Puts m j (255 ∷ []) n k) where
-  pub block_long : length n ≡ 32
-  block_long = puts_length end' ∙ puts_length fig
-
+module _ (fs : List ℕ) (few : length fs ≤ 29) {n : List ℕ} {k : ℕ} (data' : Puts (replicate 32 0) 0 (fs ++ 255 ∷ []) n k) where
   block_data_law : take 30 n ≡ take 30 (fs ++ 255 ∷ replicate 30 0)
   unfolding zeros
   block_data_law =
       let us : List ℕ = fs ++ 255 ∷ [] in
       let l : length us ≡ length fs + 1 = length-append fs (255 ∷ []) in
-      let all : n ≡ us ++ drop (length us) (replicate 32 0) = (puts_then fig end').stored ∙ sets_front us (replicate 32 0) (omega arith) in
+      let all : n ≡ us ++ drop (length us) (replicate 32 0) = data'.stored ∙ sets_front us (replicate 32 0) (omega arith) in
       ap (take 30) (all ∙ ap (λ (r : List ℕ). us ++ r) (zeros_drop (length us) 32) ∙ append_assoc fs (255 ∷ []) (replicate (32 - length us) 0))
       ∙ data_front fs (32 - length us) few (omega arith) ∙ sym (data_front fs 30 few (omega arith))
 
-  -- and the check after the first 30 bytes
-  pub block_made : (check : ℕ) → check ≡ check_of (take 30 n) → set (set n 30 (check / 256)) 31 (check % 256) ≡ block_of fs
+  -- and the check after the first 30 bytes; `m` is what the array then holds
+  pub block_made : {m : List ℕ} {check : ℕ} → m ≡ n → check ≡ check_of (take 30 m) → set (set m 30 (check / 256)) 31 (check % 256) ≡ block_of fs
   unfolding block_of
-  block_made check e =
-      let d : check ≡ check_of (take 30 (fs ++ 255 ∷ replicate 30 0)) = e ∙ ap check_of block_data_law in
-      sets-eq ((check / 256) ∷ (check % 256) ∷ []) n 30 (omega (arith, block_long))
-      ∙ ap (λ (r : List ℕ). take 30 n ++ (check / 256) ∷ (check % 256) ∷ [] ++ r) (drop_of_length-le n {i = 32} (omega (arith, block_long)))
-      ∙ append-nil (take 30 n ++ (check / 256) ∷ (check % 256) ∷ [])
-      ∙ λ i. block_data_law i ++ (d i / 256) ∷ (d i % 256) ∷ []
+  block_made {m} {check} left e =
+      let long : length m ≡ 32 = ap length left ∙ puts_length data' in
+      let front : take 30 m ≡ take 30 (fs ++ 255 ∷ replicate 30 0) = ap (take 30) left ∙ block_data_law in
+      let d : check ≡ check_of (take 30 (fs ++ 255 ∷ replicate 30 0)) = e ∙ ap check_of front in
+      sets-eq ((check / 256) ∷ (check % 256) ∷ []) m 30 (omega arith)
+      ∙ ap (λ (r : List ℕ). take 30 m ++ (check / 256) ∷ (check % 256) ∷ [] ++ r) (drop_of_length-le m {i = 32} (omega arith))
+      ∙ append-nil (take 30 m ++ (check / 256) ∷ (check % 256) ∷ [])
+      ∙ λ i. front i ++ (d i / 256) ∷ (d i % 256) ∷ []
+
+  pub block_room : {m : List ℕ} → m ≡ n → 30 ≡ length (take 30 m)
+  block_room {m} left = sym (length-take-le 30 m (omega (arith, ap length left, puts_length data')))

@@ -1,6 +1,5 @@
 -- The laws above specs/, in the order in which they build on each other.
-pub mod Lists
-pub mod Ranges
-pub mod Sets
+pub mod Cuts
 pub mod Blocks
+pub mod Sets
 pub mod Output

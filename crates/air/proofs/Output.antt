@@ -8,7 +8,8 @@ use mathlib.Core.List.{List, [], ◌∷◌, ◌++◌, append_assoc}
 use lib.ListN.{length, get_or, take}
 use lib.Dec.{eqb}
 use borrow.Author.Tests.{eqb-true, eqb-false}
-use Rattle.rules.specs.declared.Outcome.TheVariants.{Done, ShortBuffer, WrongTable}
+use Rattle.std.proofs.Common.{Ok, Err}
+use Rattle.out.specs.declared.Unwritten.TheVariants as Unwritten
 use Rattle.rules.specs.Field.{Pair}
 use Rattle.rules.specs.Collecting.{IdSet, Content, meets, most_keys}
 use Rattle.pieces.specs.Air.{Piece, cut, dead_link, pieces, fig_bytes, block_of, blocks_of, set_blocks, all_blocks, air}
@@ -25,10 +26,12 @@ use Rattle.table.proofs.GivenLaws.{sets_are}
 use Rattle.sets.specs.Stored.{store_sets, past}
 use Rattle.sets.specs.Shown.{set_in, shown_as, shown_at, sets_from, sets_in}
 use Rattle.sets.proofs.ShownLaws.{sets_skip, sets_next, sets_end, sets_stored}
-use Rattle.out.specs.Put.{Puts}
+use Rattle.std.specs.Borrow.{MutBor}
+use Rattle.out.specs.declared.Page.{Page}
+use Rattle.out.specs.Page.{Opens, Writes}
 use Rattle.out.specs.Answer.{written_as, Outputs}
-use Rattle.out.proofs.Runs.{puts_as}
-use Rattle.out.proofs.Answers.{written_short, written_done}
+use Rattle.out.proofs.Pages.{writes_as}
+use Rattle.out.proofs.Answers.{written_short, page_done}
 
 -- ---- blocks
 
@@ -98,19 +101,20 @@ air_of t c m e =
 -- ---- the answer
 
 -- a table that is none
-pub answer_wrong : (t : Table) (old : List ℕ) → (Stored t → ⊥) → Outputs air t old (record { outcome = WrongTable; size = 0 }) old
+pub answer_wrong : (t : Table) (old : List ℕ) → (Stored t → ⊥) → Outputs air t old (Err Unwritten.WrongTable) old
 unfolding written_as
 answer_wrong t old n = not_stored n refl
 
 -- a buffer that is too short, and one that is not
-module _ (t : Table) (s : Stored t) (old : List ℕ) (n : ℕ) (count : 32 * n ≡ length (all_blocks (sets_from t.sets 0 t.sets.count))) where
-  pub answer_short : length old < 32 * n → Outputs air t old (record { outcome = ShortBuffer; size = 0 }) old
+module _ (t : Table) (s : Stored t) (n : ℕ) (count : 32 * n ≡ length (all_blocks (sets_from t.sets 0 t.sets.count))) where
+  pub answer_short : (old : List ℕ) → length old < 32 * n → Outputs air t old (Err Unwritten.ShortBuffer) old
   unfolding Stored
-  answer_short h = stored s.0 s.1 s.2 (written_short (air s.0) old (omega (arith, ap length (air_of t.sets s.0 s.1 (sets_are t s.0 s.1 s.2)))))
+  answer_short old h = stored s.0 s.1 s.2 (written_short (air s.0) old (omega (arith, ap length (air_of t.sets s.0 s.1 (sets_are t s.0 s.1 s.2)))))
 
-  pub answer_done : (new : List ℕ) (size : ℕ) → 32 * n ≤ length old → Puts old 0 (all_blocks (sets_from t.sets 0 t.sets.count)) new size
-      → Outputs air t old (record { outcome = Done; size = size }) new
+  pub answer_done : {lent : MutBor (List ℕ)} {p q : Page} {new : List ℕ} {size : ℕ} → 32 * n ≤ length lent.now → Opens lent p
+      → Writes p (all_blocks (sets_from t.sets 0 t.sets.count)) q → size ≡ min q.at (length q.buffer.now) → new ≡ q.buffer.now
+      → Outputs air t lent.now (Ok size) new
   unfolding Stored
-  answer_done new size h p =
+  answer_done h o w size left =
       let e = air_of t.sets s.0 s.1 (sets_are t s.0 s.1 s.2) in
-      stored s.0 s.1 s.2 (written_done (omega (arith, ap length e)) (puts_as e p))
+      stored s.0 s.1 s.2 (page_done o (writes_as e w) size left (omega (arith, ap length e)))

@@ -1,38 +1,48 @@
--- How the writer for air goes through a set: its pieces as ranges of its identifiers. That these are the pieces of the rules is
--- proved in proofs/.
-use Rattle.std.specs.Prelude.{ℕ, zero, suc, ◌+◌, ◌≤◌, ◌<◌, not, cond, List, [], ◌∷◌, get_or, drop, eqb}
-use Rattle.std.proofs.Math.Seq.{slice}
+-- How the writer for air goes through a set: each piece takes the identifier at the front, and the run of the qualifier's kind that
+-- follows, as far as there is room. That these are the pieces of the rules is proved in proofs/.
+use Rattle.std.specs.Prelude.{ℕ, ◌≡◌, ◌≤◌, ◌<◌, Bool, true, false, List, [], ◌∷◌, length, eqb}
+use Rattle.std.specs.List.{prefix_len}
+use Rattle.rules.specs.Field.{Pair}
 use Rattle.rules.specs.Collecting.{key_width}
-use Rattle.pieces.specs.Air.{Piece, piece_most, start_qualifier}
-use Rattle.air.specs.declared.Part.{Part}
+use Rattle.lists.specs.declared.Pairs.{Pairs}
+use Rattle.lists.specs.Stored.{listed}
+use Rattle.pieces.specs.Air.{piece_most, chop, cut, start_qualifier}
+use Rattle.pieces.specs.Air as Air
+use Rattle.air.specs.declared.Piece.{Piece}
+use Rattle.air.specs.declared.Pieces.{Pieces}
 
 -- how many at the front are of a kind
-unfoldable pub run : ℕ → List ℕ → ℕ
-run k [] = 0
-run k (x ∷ xs) = cond (eqb x k) (suc (run k xs)) 0
+abbrev pub run : ℕ → List ℕ → ℕ
+run k xs = prefix_len (λ x. eqb x k) xs
 
--- the qualifier of the piece of a key's set that begins at a place, by the kinds of the set: the kind there, but for the start
-unfoldable pub qualifier_at : ℕ → List ℕ → ℕ → ℕ
-qualifier_at k ks zero = start_qualifier k (get_or ks 0 0) (drop 1 ks)
-qualifier_at k ks (suc from) = get_or ks (suc from) 0
+-- the qualifier of the next piece of a key's set, by the kinds that are left: the first of them, but for the start
+unfoldable pub qualifier_of : ℕ → Bool → List ℕ → ℕ
+qualifier_of key begun [] = 0
+qualifier_of key true (k ∷ ks) = k
+qualifier_of key false (k ∷ ks) = start_qualifier key k ks
 
--- the piece that begins at a place: the identifier there, and the run of the qualifier's kind that follows, as far as there is
--- room
-unfoldable pub part_at : ℕ → List ℕ → ℕ → Part
-part_at k ks from =
-    record {
-      from = from;
-      to = from + 1 + run (qualifier_at k ks from) (slice (from + 1) (from + piece_most (key_width k)) ks);
-      qualifier = qualifier_at k ks from;
-    }
+-- the piece of the rules that a piece stands for
+abbrev pub piece_of : Piece → Air.Piece
+piece_of p = record { more = p.more; qualifier = p.qualifier; numbers = p.numbers.now }
 
--- the piece that a range stands for: a start if it begins at place 0
-unfoldable pub piece_in : List ℕ → Part → Piece
-piece_in numbers p = record { more = not (eqb p.from 0); qualifier = p.qualifier; numbers = slice p.from p.to numbers }
+-- identifiers in continuations alone
+unfoldable pub further : ℕ → List Pair → List Air.Piece
+further most [] = []
+further most (p ∷ ps) = chop most (record { more = true; qualifier = p.kind; numbers = p.number ∷ [] }) ps
 
--- a range of n identifiers of a key that a block has room for
-pub record Fitting (key n : ℕ) (p : Part) : Type 0 where
-  pub ahead : p.from ≤ p.to
-  pub inside : p.to ≤ n
-  pub few : p.to ≤ p.from + piece_most (key_width key)
-  pub kind : p.qualifier < 4
+-- the pieces of the identifiers that are left of a key's set: all, or those after a piece before them
+unfoldable pub pieces_left : ℕ → Bool → List Pair → List Air.Piece
+pieces_left key true items = further (piece_most (key_width key)) items
+pieces_left key false items = cut key items
+
+abbrev pub to_come : Pieces → List Air.Piece
+to_come p = pieces_left p.key p.begun (listed p.left)
+
+-- there are as many kinds as numbers
+abbrev pub Alike : Pairs → Type 0
+Alike p = length p.kinds.now ≡ length p.numbers.now
+
+-- a block of a key has room for a piece
+pub record Fitting (key : ℕ) (c : Air.Piece) : Type 0 where
+  pub few : length c.numbers ≤ piece_most (key_width key)
+  pub kind : c.qualifier < 4

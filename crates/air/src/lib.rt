@@ -1,69 +1,63 @@
 // Writing the shown sets of a table for air (document 01, Writing for air): whole blocks into a lent
 // buffer. Every function is proved, and write_air, the one that is `pub`, has no `requires`.
-// A set is cut by places: a piece is a range of the set's identifiers (specs/Parts.antt).
+// A set is cut from its front on: each piece is a slice of the set's numbers (specs/Parts.antt).
 #![tactic(auto)]
 
-ghost use Rattle.std.specs.Prelude.{◌≡◌, ◌+◌, ◌*◌, ◌/◌, ◌%◌, ◌^◌, ◌≤◌, ◌<◌, length, take};
-ghost use Rattle.std.proofs.Math.Seq.{slice};
-ghost use Rattle.rules.specs.Block.{bit};
-ghost use Rattle.rules.specs.Collecting.{key_width, most_keys, most_ids};
+ghost use Rattle.std.specs.Prelude.{◌≡◌, false, ◌+◌, ◌*◌, ◌/◌, ◌%◌, ◌^◌, ◌≤◌, ◌<◌, length};
+ghost use Rattle.std.specs.Iterator.{YieldsFirstBy, item_count};
+ghost use Rattle.rules.specs.Collecting.{key_width, most_keys};
 ghost use Rattle.pieces.specs.Air.{piece_most, cut, dead_link, pieces, big_bytes, all_bytes, fig_bytes, block_of, blocks_of, set_blocks, all_blocks, air};
 ghost use Rattle.lists.specs.Stored.{Holds};
 ghost use Rattle.sets.specs.Stored.{EachHolds};
 ghost use Rattle.sets.specs.Shown.{set_in, shown_as, sets_from};
-ghost use Rattle.out.specs.Put.{Puts};
+ghost use Rattle.out.specs.Page.{Writes};
 ghost use Rattle.out.specs.Answer.{Outputs};
-ghost use Rattle.air.specs.Parts.{run, qualifier_at, part_at, piece_in, Fitting};
+ghost use Rattle.air.specs.Parts.{run, qualifier_of, piece_of, to_come, Alike, Fitting};
 
-use lists::{IdList, is_dead};
-use out::Written;
-use rules::Outcome;
+use lists::{IdList, Pairs};
+use out::{Page, Unwritten};
 use sets::Sets;
 use table::Table;
 
-// A piece of a set: its identifiers are those at the places from `from` up to `to`. It is a start if it
-// begins at place 0.
+// What every FIG of a set says: its key, and whether it is on.
 #[derive(Clone, Copy)]
-struct Part {
-    from: usize,
-    to: usize,
-    qualifier: u8,
+struct Head {
+    key: u32,
+    on: bool,
 }
 
-// 1 or 0.
-fn bit_of(b: bool) -> usize
-    ensures { (result ≡ bit b) × (result ≤ 1) }
-{
-    if b { 1 } else { 0 }
+// A piece of a set, which one FIG carries: a start or a continuation, its qualifier and its identifiers' numbers.
+#[derive(Clone, Copy)]
+struct Piece<'a> {
+    more: bool,
+    qualifier: u8,
+    numbers: &'a [u32],
 }
 
 // ---- cutting a set
 
 // The most identifiers to a piece of a key's set.
+#[tactic(auto, unfolding(pieces::specs::Air::piece_most))]
 fn most_of(key: u32) -> usize
-    ensures { result ≡ piece_most (key_width key) }
+    ensures { (result ≡ piece_most (key_width key)) × (0 < result) × (result ≤ 12) }
 {
-    let width = lists::width_of(key);
-    if width == 4 {
-        6
-    } else if width == 3 {
-        8
-    } else {
-        12
+    match lists::width_of(key) {
+        4 => 6,
+        3 => 8,
+        _ => 12,
     }
 }
 
 // The qualifier of a start: the next identifier's kind, where a start of that kind begins with the first; else the
 // first's own.
-fn start_qualifier(kinds: &[u8], len: usize, key: u32) -> u8
-    requires { (0 < len) × (len ≤ length kinds.now) }
-    ensures { result ≡ qualifier_at key (take len kinds.now) 0 }
+fn start_qualifier(key: u32, kinds: &[u8]) -> u8
+    requires { 0 < length kinds.now }
+    ensures { result ≡ qualifier_of key false kinds.now }
 {
     let first = kinds[0];
-    if len < 2 {
+    let Some(&next) = kinds.get(1) else {
         return lists::first_of(key, first);
-    }
-    let next = kinds[1];
+    };
     if lists::first_of(key, next) == first {
         next
     } else {
@@ -71,279 +65,232 @@ fn start_qualifier(kinds: &[u8], len: usize, key: u32) -> u8
     }
 }
 
-// The qualifier of the piece that begins at a place.
-fn qualifier_at(kinds: &[u8], len: usize, from: usize, key: u32) -> u8
-    requires { (from < len) × (len ≤ length kinds.now) }
-    ensures { result ≡ qualifier_at key (take len kinds.now) from }
+// The qualifier of the next piece, by the kinds that are left: a continuation's is the first of them.
+#[tactic(auto, using(crate::proofs::Cuts::qualifier_begun))]
+fn qualifier_of(key: u32, begun: bool, kinds: &[u8]) -> u8
+    requires { 0 < length kinds.now }
+    ensures { result ≡ qualifier_of key begun kinds.now }
 {
-    if 0 < from {
-        kinds[from]
+    if begun {
+        kinds[0]
     } else {
-        start_qualifier(kinds, len, key)
+        start_qualifier(key, kinds)
     }
 }
 
-// Where a run of one kind that begins at a place ends.
-fn run_end(kinds: &[u8], from: usize, end: usize, kind: u8) -> usize
-    requires { (from ≤ end) × (end ≤ length kinds.now) }
-    ensures { result ≡ from + run kind (slice from end kinds.now) }
+// How many at the front are of a kind.
+fn run_of(kinds: &[u8], kind: u8) -> usize
+    ensures { (result ≡ run kind kinds.now) × (result ≤ length kinds.now) }
 {
-    let mut i = from;
-    while i < end {
-        if kinds[i] != kind {
-            return i;
+    kinds.iter().position(|k| *k != kind).unwrap_or(kinds.len())
+}
+
+// The pieces that are still to come: the identifiers of a key's set that are left, and whether there was a piece before them.
+#[derive(Drop)]
+struct Pieces<'a> {
+    key: u32,
+    begun: bool,
+    left: Pairs<'a>,
+}
+
+impl<'a> Iterator for Pieces<'a> {
+    type Item = Piece<'a>;
+
+    ghost can_next = { λ p. Alike p.left };
+
+    ghost next_gives = { YieldsFirstBy piece_of to_come };
+
+    ghost remaining = { item_count to_come };
+
+    fn next(&mut self) -> Option<Piece<'a>> {
+        let Pairs { numbers, kinds } = self.left;
+        if kinds.is_empty() {
+            return None;
         }
-        i += 1;
-    }
-    i
-}
-
-// The piece that begins at a place.
-fn part_at(kinds: &[u8], len: usize, from: usize, key: u32) -> Part
-    requires { (from < len) × (len ≤ length kinds.now) }
-    ensures { result ≡ part_at key (take len kinds.now) from }
-{
-    let end = lists::least(len, from + most_of(key));
-    let qualifier = qualifier_at(kinds, len, from, key);
-    let to = run_end(kinds, from + 1, end, qualifier);
-    Part {
-        from,
-        to,
-        qualifier,
+        let qualifier = qualifier_of(self.key, self.begun, kinds);
+        let end = kinds.len().min(most_of(self.key));
+        let count = 1 + run_of(&kinds[1..end], qualifier);
+        let piece = Piece {
+            more: self.begun,
+            qualifier,
+            numbers: &numbers[..count],
+        };
+        self.begun = true;
+        self.left = self.left.after(count);
+        Some(piece)
     }
 }
 
-// How many pieces the identifiers of a list are cut into.
-fn cut_count(list: IdList, key: u32) -> usize
-    requires { list.len ≤ most_ids }
-    ensures { (result ≡ length (cut key (set_in list).items)) × (result ≤ list.len) }
+// The pieces of a list's identifiers.
+#[tactic(auto, unfolding(crate::specs::Parts::pieces_left, sets::specs::Shown::set_in))]
+fn pieces_of(key: u32, list: &IdList) -> Pieces<'_>
+    ensures alike { Alike result.left }
+    ensures all { to_come result ≡ cut key (set_in list.now).items }
 {
-    let len = list.len;
-    let mut n: usize = 0;
-    let mut from: usize = 0;
-    while from < len {
-        let part = part_at(&list.kinds, len, from, key);
-        from = part.to;
-        n += 1;
+    Pieces {
+        key,
+        begun: false,
+        left: list.pairs(),
     }
-    n
 }
 
 // How many pieces a set is cut into.
-fn piece_count(list: IdList, key: u32) -> usize
-    requires { list.len ≤ most_ids }
-    ensures { (result ≡ length (pieces key (set_in list))) × (result ≤ 130) }
+fn piece_count(key: u32, list: &IdList) -> usize
+    requires { Holds key list.now }
+    ensures { (result ≡ length (pieces key (set_in list.now))) × (result ≤ 130) }
 {
-    let len = list.len;
-    let rds = list.named % 2 == 1;
-    let drm = list.named / 2 == 1;
-    let n = cut_count(list, key);
-    let r = bit_of(is_dead(rules::RDS, rds, &list.numbers, &list.kinds, len));
-    let d = bit_of(is_dead(rules::DRM, drm, &list.numbers, &list.kinds, len));
-    n + r + d
+    let pairs = list.pairs();
+    let rds = pairs.is_dead(rules::RDS, list.named % 2 == 1);
+    let drm = pairs.is_dead(rules::DRM, list.named / 2 == 1);
+    pieces_of(key, list).count() + usize::from(rds) + usize::from(drm)
 }
 
 // ---- a piece as a block
 
-// The byte of a number at a place, place 0 the lowest.
-fn byte_at(n: u32, place: usize) -> u8
-    requires { place < 4 }
-    ensures { result ≡ n / 256 ^ place % 256 }
-{
-    ((n >> (8 * place)) % 256) as u8
-}
-
-// A number in this many bytes, the highest first, at a place, and the place after it.
-fn put_number(out: &mut [u8], at: usize, width: usize, n: u32) -> usize
+// A number in this many bytes, the highest first.
+fn put_number(page: &mut Page, width: usize, n: u32)
     requires { width ≤ 4 }
-    ensures { Puts out.old at (big_bytes width n) out.new result }
+    ensures { Writes page.old (big_bytes width n) page.new }
 {
-    let mut p = lists::least(at, out.len());
-    let mut k = width;
-    while 0 < k {
-        k -= 1;
-        p = out::put(out, p, byte_at(n, k));
-    }
-    p
+    page.put_bytes(&n.to_be_bytes()[4 - width..]);
 }
 
-// The numbers of a range, each in this many bytes, at a place, and the place after them.
-fn put_numbers(
-    out: &mut [u8],
-    at: usize,
-    width: usize,
-    numbers: &[u32],
-    from: usize,
-    to: usize,
-) -> usize
-    requires { (width ≤ 4) × (from ≤ to) × (to ≤ length numbers.now) }
-    ensures { Puts out.old at (all_bytes width (slice from to numbers.now)) out.new result }
+// Numbers, each in this many bytes.
+fn put_numbers(page: &mut Page, width: usize, numbers: &[u32])
+    requires { width ≤ 4 }
+    ensures { Writes page.old (all_bytes width numbers.now) page.new }
 {
-    let mut p = lists::least(at, out.len());
-    let mut i = from;
-    while i < to {
-        p = put_number(out, p, width, numbers[i]);
-        i += 1;
+    for n in numbers {
+        put_number(page, width, *n);
     }
-    p
 }
 
-// The linking FIG of a piece at the front of a buffer, and the place after it.
-fn put_fig(out: &mut [u8], key: u32, on: bool, part: Part, numbers: &[u32]) -> usize
-    requires { Fitting key (length numbers.now) part }
-    ensures { Puts out.old 0 (fig_bytes key on (piece_in numbers.now part)) out.new result }
+// The linking FIG of a piece.
+fn put_fig(page: &mut Page, head: Head, piece: Piece)
+    requires { Fitting head.key (piece_of piece) }
+    ensures { Writes page.old (fig_bytes head.key head.on (piece_of piece.entry)) page.new }
 {
-    let from = part.from;
-    let to = part.to;
-    let width = lists::width_of(key);
-    let count = to - from;
-    let more = bit_of(from != 0);
-    let state = bit_of(on);
-    let k = key as usize;
-    let head = [
+    let width = lists::width_of(head.key);
+    let count = piece.numbers.len();
+    let more = usize::from(piece.more);
+    let state = usize::from(head.on);
+    let k = head.key as usize;
+    let first = [
         (4 + count * width) as u8,
         (more * 128 + k / 32768 % 2 * 64 + k / 16384 % 2 * 32 + 6) as u8,
         (128 + state * 64 + k / 8192 % 2 * 32 + k / 4096 % 2 * 16 + k % 4096 / 256) as u8,
         (k % 256) as u8,
-        part.qualifier * 32 + count as u8,
+        piece.qualifier * 32 + count as u8,
     ];
-    let p = out::put_bytes(out, 0, &head);
-    put_numbers(out, p, width, numbers, from, to)
+    page.put_bytes(&first);
+    put_numbers(page, width, piece.numbers);
 }
 
 // The block of a piece: its FIG, FF, zeros, and the check of the 30 bytes before it.
-fn block_of(key: u32, on: bool, part: Part, numbers: &[u32]) -> [u8; 32]
-    requires { Fitting key (length numbers.now) part }
-    ensures { result ≡ block_of (fig_bytes key on (piece_in numbers.now part)) }
+fn block_of(head: Head, piece: Piece) -> [u8; 32]
+    requires { Fitting head.key (piece_of piece) }
+    ensures { result ≡ block_of (fig_bytes head.key head.on (piece_of piece.entry)) }
 {
     let mut block = [0u8; 32];
-    let end = put_fig(&mut block, key, on, part, numbers);
-    out::put(&mut block, end, 255);
+    let mut page = Page::over(&mut block);
+    put_fig(&mut page, head, piece);
+    page.put(255);
     let check = crc::check_of(&block[..30]);
     block[30] = (check / 256) as u8;
     block[31] = (check % 256) as u8;
     block
 }
 
-// The block of a piece at a place, and the place after it.
-fn put_block(out: &mut [u8], at: usize, key: u32, on: bool, part: Part, numbers: &[u32]) -> usize
-    requires { Fitting key (length numbers.now) part }
-    ensures { Puts out.old at (block_of (fig_bytes key on (piece_in numbers.now part))) out.new result }
+// The block of a piece.
+fn put_block(page: &mut Page, head: Head, piece: Piece)
+    requires { Fitting head.key (piece_of piece) }
+    ensures { Writes page.old (block_of (fig_bytes head.key head.on (piece_of piece.entry))) page.new }
 {
-    let block = block_of(key, on, part, numbers);
-    out::put_bytes(out, at, &block)
+    page.put_bytes(&block_of(head, piece));
 }
 
 // ---- a set
 
-// The blocks of a list's identifiers at a place, and the place after them.
-fn put_cut(out: &mut [u8], at: usize, key: u32, on: bool, list: IdList) -> usize
-    requires { Holds key list }
-    ensures { Puts out.old at (blocks_of key on (cut key (set_in list).items)) out.new result }
+// The blocks of a list's identifiers.
+fn put_cut(page: &mut Page, head: Head, list: &IdList)
+    requires { Holds head.key list.now }
+    ensures { Writes page.old (blocks_of head.key head.on (cut head.key (set_in list.now).items)) page.new }
 {
-    let len = list.len;
-    let mut p = lists::least(at, out.len());
-    let mut from: usize = 0;
-    while from < len {
-        let part = part_at(&list.kinds, len, from, key);
-        p = put_block(out, p, key, on, part, &list.numbers);
-        from = part.to;
+    for piece in pieces_of(head.key, list) {
+        put_block(page, head, piece);
     }
-    p
 }
 
-// The block of a kind's dead link at a place, if it is one, and the place after it. It is a continuation, so
-// its empty range does not begin at place 0.
-fn put_dead(
-    out: &mut [u8],
-    at: usize,
-    key: u32,
-    on: bool,
-    list: IdList,
-    kind: u8,
-    named: bool,
-) -> usize
+// The block of a kind's dead link, if it is one: a continuation without identifiers.
+fn put_dead(page: &mut Page, head: Head, list: &IdList, kind: u8, named: bool)
     requires { kind < 4 }
-    ensures { Puts out.old at (blocks_of key on (dead_link kind named (set_in list).items)) out.new result }
+    ensures { Writes page.old (blocks_of head.key head.on (dead_link kind named (set_in list.now).items)) page.new }
 {
-    let len = list.len;
-    if is_dead(kind, named, &list.numbers, &list.kinds, len) {
-        let part = Part {
-            from: 1,
-            to: 1,
+    if list.pairs().is_dead(kind, named) {
+        let piece = Piece {
+            more: true,
             qualifier: kind,
+            numbers: &[],
         };
-        put_block(out, at, key, on, part, &list.numbers)
-    } else {
-        lists::least(at, out.len())
+        put_block(page, head, piece);
     }
 }
 
-// The blocks of a set at a place, and the place after them: none where there is no set.
-fn put_set(out: &mut [u8], at: usize, key: u32, on: bool, list: IdList) -> usize
-    requires { Holds key list }
-    ensures { Puts out.old at (set_blocks (shown_as key on list)) out.new result }
+// The blocks of a set: none where there is no set.
+fn put_set(page: &mut Page, head: Head, list: &IdList)
+    requires { Holds head.key list.now }
+    ensures { Writes page.old (set_blocks (shown_as head.key head.on list.now)) page.new }
 {
     let named = list.named;
-    let p = put_cut(out, at, key, on, list);
-    let q = put_dead(out, p, key, on, list, rules::RDS, named % 2 == 1);
-    put_dead(out, q, key, on, list, rules::DRM, named / 2 == 1)
+    put_cut(page, head, list);
+    put_dead(page, head, list, rules::RDS, named % 2 == 1);
+    put_dead(page, head, list, rules::DRM, named / 2 == 1);
 }
 
 // ---- a table
 
 // How many pieces the sets of the first entries are cut into.
-fn count_all(count: usize, sets: Sets) -> usize
-    requires { (count ≤ most_keys) × EachHolds sets.keys sets.shown }
-    ensures { (32 * result ≡ length (all_blocks (sets_from sets 0 count))) × (result ≤ 4160) }
+fn count_all(sets: &Sets, count: usize) -> usize
+    requires { (count ≤ most_keys) × EachHolds sets.now.keys sets.now.shown }
+    ensures { (32 * result ≡ length (all_blocks (sets_from sets.now 0 count))) × (result ≤ 4160) }
 {
     let mut n: usize = 0;
-    let mut i: usize = 0;
-    while i < count {
-        let list = sets.shown[i];
-        n += piece_count(list, sets.keys[i]);
-        i += 1;
+    for i in 0..count {
+        let list = &sets.shown[i];
+        n += piece_count(sets.keys[i], list);
     }
     n
 }
 
-// The blocks of these sets at the front of a buffer, and the place after them.
-fn put_all(out: &mut [u8], count: usize, sets: Sets) -> usize
-    requires { (count ≤ most_keys) × EachHolds sets.keys sets.shown }
-    ensures { Puts out.old 0 (all_blocks (sets_from sets 0 count)) out.new result }
+// The blocks of these sets.
+fn put_all(page: &mut Page, sets: &Sets, count: usize)
+    requires { (count ≤ most_keys) × EachHolds sets.now.keys sets.now.shown }
+    ensures { Writes page.old (all_blocks (sets_from sets.now 0 count)) page.new }
 {
-    let mut p: usize = 0;
-    let mut i: usize = 0;
-    while i < count {
-        let set = sets.shown[i];
-        p = put_set(out, p, sets.keys[i], sets.on[i], set);
-        i += 1;
+    for i in 0..count {
+        let head = Head {
+            key: sets.keys[i],
+            on: sets.on[i],
+        };
+        let set = &sets.shown[i];
+        put_set(page, head, set);
     }
-    p
 }
 
 // The shown sets of a table as whole blocks: 9; then 8 with nothing written; the buffer past the output
 // untouched.
-pub fn write_air(table: Table, out: &mut [u8]) -> Written
+pub fn write_air(table: Table, out: &mut [u8]) -> Result<usize, Unwritten>
     ensures { Outputs air table out.old result out.new }
 {
     if !table.meets() {
-        return Written {
-            outcome: Outcome::WrongTable,
-            size: 0,
-        };
+        return Err(Unwritten::WrongTable);
     }
-    let sets = table.sets;
+    let sets = &table.sets;
     let count = sets.count;
-    if out.len() < 32 * count_all(count, sets) {
-        return Written {
-            outcome: Outcome::ShortBuffer,
-            size: 0,
-        };
+    if out.len() < 32 * count_all(sets, count) {
+        return Err(Unwritten::ShortBuffer);
     }
-    let size = put_all(out, count, sets);
-    Written {
-        outcome: Outcome::Done,
-        size,
-    }
+    let mut page = Page::over(out);
+    put_all(&mut page, sets, count);
+    Ok(page.size())
 }

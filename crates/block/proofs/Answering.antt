@@ -6,15 +6,17 @@ use mathlib.Core.List.{List}
 use lib.ListN.{length}
 use lib.Dec.{eqb}
 use borrow.Author.Tests.{eq-eqb, ne_eqb}
-use Rattle.rules.specs.declared.Outcome.TheVariants.{NotABlock, CheckFails}
+use Rattle.std.specs.Prelude.{Result, Err}
 use Rattle.rules.specs.Block.{check_holds}
 use Rattle.rules.specs.Outcomes.{verdict}
-use Rattle.block.specs.declared.Judged.{Judged}
-use Rattle.block.specs.Judged.{no_spots, judged_as, judged}
+use Rattle.block.specs.declared.Spots.{Spots}
+use Rattle.block.specs.declared.Fault.TheVariants as Fault
+use Rattle.block.specs.declared.Refused.{Refused}
+use Rattle.block.specs.Judged.{fault_by, judged_as, judged}
 use Rattle.block.specs.Faults.{JudgesFigs}
 
-module _ (fib : List ℕ) (r : Judged) where
-  pub judges_no_block : (length fib ≡ 32 → ⊥) → r ≡ record { outcome = NotABlock; place = 0; spots = no_spots } → r ≡ judged fib
+module _ (fib : List ℕ) (r : Result Spots Refused) where
+  pub judges_no_block : (length fib ≡ 32 → ⊥) → r ≡ Err (record { fault = Fault.NotABlock; place = 0 }) → r ≡ judged fib
   unfolding judged judged_as verdict
   judges_no_block l e = rw (ne_eqb (length fib) 32 l) e
 
@@ -22,8 +24,8 @@ module _ (fib : List ℕ) (r : Judged) where
     check_is : check_holds fib ≡ b
     check_is = sym (t ∙ ap (λ (x : Bool). x && check_holds fib) (eq-eqb (length fib) 32 l))
 
-    pub judges_check : b ≡ false → r ≡ record { outcome = CheckFails; place = 0; spots = no_spots } → r ≡ judged fib
-    unfolding judged judged_as verdict
+    pub judges_check : b ≡ false → r ≡ Err (record { fault = Fault.CheckFails; place = 0 }) → r ≡ judged fib
+    unfolding judged judged_as fault_by verdict
     judges_check f e = rw (eq-eqb (length fib) 32 l, check_is ∙ f) e
 
     pub judges_figs : b ≡ true → JudgesFigs fib r → r ≡ judged fib

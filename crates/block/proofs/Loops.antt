@@ -3,12 +3,12 @@
 use Prim.Native.Nat.{ℕ, zero, suc, ◌+◌, ◌*◌, ◌-◌, ◌≤◌, ◌<◌}
 use native.Mathlib.Omega.{arith}
 use mathlib.Core.Path.{◌≡◌, refl, sym, ap, ap₂, ◌∙◌}
-use mathlib.Core.Bool.{Bool, true, false, cond}
+use mathlib.Core.Bool.{true, false}
 use mathlib.Core.List.{List, [], ◌∷◌, ◌++◌, map}
 use lib.ListN.{length, take, drop, length-take, length-drop}
-use Rattle.rules.specs.declared.Outcome.TheVariants.{WrongFig}
+use Rattle.std.specs.Prelude.{Option, None, Result, Err}
 use Rattle.rules.specs.Block.{Placed, Walk, whole, broken, after, walk, Fig as FigOf, fig_at, figs}
-use Rattle.rules.specs.Field.{is_linking, field_at, fields_of, wrong_value, empty_start}
+use Rattle.rules.specs.Field.{is_linking, field_at, fields_of}
 use Rattle.rules.specs.Outcomes.{joined, judge_figs}
 use Rattle.rules.proofs.Taken.{walk_item, walk_end, walk_wrong, block_item, block_wrong, field_item}
 use Rattle.figs.specs.declared.Cursor.{Cursor}
@@ -20,15 +20,15 @@ use Rattle.field.specs.declared.Field.{Field}
 use Rattle.field.specs.declared.FieldStep.{FieldStep}
 use Rattle.field.specs.declared.FieldStep.TheVariants.{Found, End, Wrong}
 use Rattle.field.specs.FieldStep.{linking, field_step_at, meaning, found}
-use Rattle.field.proofs.Laws.{field_step_at_means, wrong_value_means, empty_start_means}
+use Rattle.field.proofs.Laws.{field_step_at_means}
 use Rattle.block.specs.declared.Spots.{Spots}
-use Rattle.block.specs.declared.Fault.{Fault}
+use Rattle.block.specs.declared.Fault.TheVariants as Fault
+use Rattle.block.specs.declared.Refused.{Refused}
 use Rattle.block.specs.declared.Pushed.{Pushed}
-use Rattle.block.specs.declared.Judged.{Judged}
-use Rattle.block.specs.Judged.{Located, spot_of, map_walk, standing, located_of, located, no_spots, store_spots, judged_as}
-use Rattle.block.specs.Faults.{class_in, worse, fault_at, no_fault, fault_of, judge_from, located_from, located_in, CanPush, Pushes, Concludes, JudgesFigs}
+use Rattle.block.specs.Judged.{Located, spot_of, map_walk, standing, located_of, located, no_spots, store_spots, fault_by, judged_as}
+use Rattle.block.specs.Faults.{fault_in, fault_at, worse, judge_from, located_from, located_in, CanPush, Pushes, Concludes, JudgesFigs}
 use Rattle.block.proofs.Walks.{joined_none, joined_after, map_after}
-use Rattle.block.proofs.Verdicts.{worse_class, worse_field, fault_of_range, judge_after, judge_broken, judge_figs_from, figs_first, figs_after, figs_over, figs_none, figs_wrong}
+use Rattle.block.proofs.Verdicts.{fault_means, judge_after, judge_broken, judge_figs_from, figs_first, figs_after, figs_over, figs_none, figs_wrong}
 use Rattle.block.proofs.Storing.{stored_none, with_spot, stored_more}
 
 -- ---- a field that is found
@@ -68,19 +68,13 @@ module _ (fib : List ℕ) (start stop n at : ℕ) where
   from_wrong e =
       ap (map_walk (standing start stop)) (walk_wrong start (field_at (body fib start stop)) n at (stands_as (body fib start stop) at Wrong e))
 
-class_means : (bytes : List ℕ) (f : Field) → class_in f ≡ cond (wrong_value (meaning bytes f)) 5 (cond (empty_start (meaning bytes f)) 6 7)
-unfolding class_in
-class_means bytes f = ap₂ (λ (b c : Bool). cond b 5 (cond c 6 7)) (wrong_value_means bytes f) (empty_start_means bytes f)
-
 -- ---- the loop over the fields of a body
 
 -- what has been found at a place of a body, after fault₀ and spots₀ before it: n more steps are left to the walk, enough to
 -- reach the end
-pub record FieldsSoFar (fib : List ℕ) (start stop : ℕ) (fault₀ : Fault) (spots₀ : Spots) (fault : Fault) (spots : Spots) (at : ℕ) : Type 0 where
+pub record FieldsSoFar (fib : List ℕ) (start stop : ℕ) (fault₀ : Option Refused) (spots₀ : Spots) (fault : Option Refused) (spots : Spots) (at : ℕ) : Type 0 where
   pub within : start + at ≤ stop
   pub room : 2 * spots.count + 2 ≤ start + at
-  pub least : 4 ≤ fault.class
-  pub most : fault.class ≤ 7
   pub fields :
       (ls : List Located) → spots₀ ≡ store_spots (map spot_of ls)
       → (more : List Located)
@@ -99,12 +93,10 @@ fields_first fib start stop before p =
     record {
       within = omega (arith, p.holds);
       room = omega (arith, p.room);
-      least = p.least;
-      most = p.most;
       fields = λ ls q. (ls, stop - start, omega (arith, p.holds), q, λ rest. refl);
     }
 
-module _ (fib : List ℕ) (start stop : ℕ) (fault₀ : Fault) (spots₀ : Spots) (fault : Fault) (spots : Spots) (at : ℕ)
+module _ (fib : List ℕ) (start stop : ℕ) (fault₀ : Option Refused) (spots₀ : Spots) (fault : Option Refused) (spots : Spots) (at : ℕ)
     (block : length fib ≡ 32) (inside : stop ≤ 30) (so : FieldsSoFar fib start stop fault₀ spots₀ fault spots at) where
   -- the steps left are not used up
   spare : (n : ℕ) → stop < start + at + n → (m : ℕ) × (n ≡ suc m)
@@ -142,16 +134,12 @@ module _ (fib : List ℕ) (start stop : ℕ) (fault₀ : Fault) (spots₀ : Spot
     field_goes_on = omega (arith, stands)
 
     -- a field more
-    pub fields_next : FieldsSoFar fib start stop fault₀ spots₀ (worse fault (fault_at (class_in f) (start + at))) (with_spot spots (record { start = start; end = stop; place = at })) next
+    pub fields_next : FieldsSoFar fib start stop fault₀ spots₀ (worse fault (fault_in f (start + at))) (with_spot spots (record { start = start; end = stop; place = at })) next
     fields_next =
-        let g = (spotted fib start stop at f).field in
-        let same = worse_field g fault (class_in f) so.most (class_means (body fib start stop) f) in
-        let class = ap (λ (x : Fault). x.class) same ∙ worse_class fault (fault_of g) in
+        let same = fault_means (body fib start stop) f (start + at) in
         record {
           within = stands.1;
           room = omega (arith, stands, so.room);
-          least = omega (arith, so.least, class, fault_of_range g);
-          most = omega (arith, so.most, class);
           fields = λ ls q.
               let more = (so.fields ls q).0 in
               let n = fewer ls q in
@@ -165,8 +153,8 @@ module _ (fib : List ℕ) (start stop : ℕ) (fault₀ : Fault) (spots₀ : Spot
                     ∙ stored_more spots more l (so.fields ls q).3 field_room,
                 λ rest. fields_judged ls q _ (from_found fib start stop n at f next e) rest
                     ∙ ap (judge_from fault more) (joined_after l w rest)
-                    ∙ judge_after fault more l (joined w rest) so.least
-                    ∙ ap (λ (x : Fault). judge_from x (more ++ l ∷ []) (joined w rest)) (sym same),
+                    ∙ judge_after fault more l (joined w rest)
+                    ∙ ap (λ (x : Option Refused). judge_from (worse fault x) (more ++ l ∷ []) (joined w rest)) (sym same),
               );
         }
 
@@ -176,8 +164,6 @@ module _ (fib : List ℕ) (start stop : ℕ) (fault₀ : Fault) (spots₀ : Spot
   fields_end e =
       record {
         room = omega (arith, so.room, so.within);
-        least = so.least;
-        most = so.most;
         fields = λ ls q. (
           (so.fields ls q).0,
           (so.fields ls q).3,
@@ -186,19 +172,17 @@ module _ (fib : List ℕ) (start stop : ℕ) (fault₀ : Fault) (spots₀ : Spot
         );
       }
 
-  -- at a field that does not fit the class is 4, whatever comes, and the place this field's, unless one before it did not fit
+  -- at a field that does not fit the fault is 4, whatever comes, and the place this field's, unless one before it did not fit
   pub fields_wrong : field_step_at (body fib start stop) at ≡ Wrong
-      → Pushes fib start stop (record { fault = fault₀; spots = spots₀ }) (record { fault = worse fault (fault_at 4 (start + at)); spots = spots })
+      → Pushes fib start stop (record { fault = fault₀; spots = spots₀ }) (record { fault = worse fault (fault_at Fault.WrongField (start + at)); spots = spots })
   fields_wrong e =
       record {
         room = omega (arith, so.room, so.within);
-        least = omega (arith, so.least, worse_class fault (fault_at 4 (start + at)));
-        most = omega (arith, worse_class fault (fault_at 4 (start + at)));
         fields = λ ls q. (
           (so.fields ls q).0,
           (so.fields ls q).3,
           λ rest. fields_judged ls q (broken (start + at)) (from_wrong fib start stop (fewer ls q) at e) rest
-              ∙ judge_broken fault (so.fields ls q).0 (so.fields ls q).0 (start + at) rest so.least,
+              ∙ judge_broken fault (so.fields ls q).0 (so.fields ls q).0 (start + at) rest,
         );
       }
 
@@ -208,29 +192,24 @@ module _ (fib : List ℕ) (start stop : ℕ) (fault₀ : Fault) (spots₀ : Spot
 pub record FigsSoFar (fib : List ℕ) (found : Pushed) (at : ℕ) : Type 0 where
   pub within : at ≤ 30
   pub room : 2 * found.spots.count ≤ at
-  pub least : 4 ≤ found.fault.class
-  pub most : found.fault.class ≤ 7
   pub fields : List Located
   pub stored : found.spots ≡ store_spots (map spot_of fields)
   pub left : ℕ
   pub spare : 30 < at + left
   pub same : judged_as (judge_figs (figs fib)) (located fib) ≡ judge_figs_from found.fault fields (walk 0 (fig_at fib) left at)
 
-pub figs_begin : (fib : List ℕ) (found : Pushed) (at : ℕ) → found.fault ≡ no_fault → found.spots ≡ no_spots → at ≡ 0 → FigsSoFar fib found at
+pub figs_begin : (fib : List ℕ) (found : Pushed) (at : ℕ) → found.fault ≡ None → found.spots ≡ no_spots → at ≡ 0 → FigsSoFar fib found at
 unfolding store_spots figs
 figs_begin fib found at f s a =
     let none : found.spots.count ≡ 0 = ap (λ (x : Spots). x.count) (s ∙ stored_none) in
-    let class : found.fault.class ≡ 7 = ap (λ (x : Fault). x.class) f in
     record {
       within = omega arith;
       room = omega arith;
-      least = omega arith;
-      most = omega arith;
       fields = [];
       stored = s ∙ stored_none;
       left = 31;
       spare = omega arith;
-      same = figs_first fib ∙ ap₂ (λ (x : Fault) (p : ℕ). judge_figs_from x [] (walk 0 (fig_at fib) 31 p)) (sym f) (sym a);
+      same = figs_first fib ∙ ap₂ (λ (x : Option Refused) (p : ℕ). judge_figs_from x [] (walk 0 (fig_at fib) 31 p)) (sym f) (sym a);
     }
 
 module _ (fib : List ℕ) (found : Pushed) (at : ℕ) (block : length fib ≡ 32) (so : FigsSoFar fib found at) where
@@ -255,15 +234,15 @@ module _ (fib : List ℕ) (found : Pushed) (at : ℕ) (block : length fib ≡ 32
   fig_as s e = sym (step_at_means fib at block) ∙ ap (fig_found fib) e
 
   -- at the end of the list
-  pub figs_end : step_at fib at ≡ FigEnd → (r : Judged) → Concludes found r → JudgesFigs fib r
+  pub figs_end : step_at fib at ≡ FigEnd → (r : Result Spots Refused) → Concludes found r → JudgesFigs fib r
   unfolding fig_found JudgesFigs Concludes
   figs_end e r c =
       c so.fields so.stored
-      ∙ sym (figs_from (whole []) (walk_end 0 (fig_at fib) less at (fig_as FigEnd e)) ∙ figs_none found.fault so.fields so.most)
+      ∙ sym (figs_from (whole []) (walk_end 0 (fig_at fib) less at (fig_as FigEnd e)) ∙ figs_none found.fault so.fields)
 
   -- at a FIG whose length is wrong
-  pub figs_break : step_at fib at ≡ FigWrong → (r : Judged) → r ≡ record { outcome = WrongFig; place = at; spots = no_spots } → JudgesFigs fib r
-  unfolding fig_found JudgesFigs judged_as
+  pub figs_break : step_at fib at ≡ FigWrong → (r : Result Spots Refused) → r ≡ Err (record { fault = Fault.WrongFig; place = at }) → JudgesFigs fib r
+  unfolding fig_found JudgesFigs judged_as fault_by
   figs_break e r a =
       a ∙ sym (figs_from (broken at) (block_wrong (fig_at fib) less at (fig_as FigWrong e)) ∙ figs_wrong found.fault so.fields at)
 
@@ -287,8 +266,6 @@ module _ (fib : List ℕ) (found : Pushed) (at : ℕ) (block : length fib ≡ 32
           holds = lies.holds;
           within = lies.within;
           room = omega (arith, so.room, lies.begins);
-          least = so.least;
-          most = so.most;
         }
 
     steps : walk 0 (fig_at fib) (suc less) at ≡ after fig (walk 0 (fig_at fib) less next.at)
@@ -320,8 +297,6 @@ module _ (fib : List ℕ) (found : Pushed) (at : ℕ) (block : length fib ≡ 32
         record {
           within = omega (arith, lies.within, lies.goes_on_law);
           room = omega (arith, p.room, lies.goes_on_law);
-          least = p.least;
-          most = p.most;
           fields = w.0;
           stored = w.1;
           left = less;
@@ -337,8 +312,6 @@ module _ (fib : List ℕ) (found : Pushed) (at : ℕ) (block : length fib ≡ 32
         record {
           within = omega (arith, lies.within, lies.goes_on_law);
           room = omega (arith, so.room, lies.holds, lies.begins, lies.goes_on_law);
-          least = so.least;
-          most = so.most;
           fields = so.fields;
           stored = so.stored;
           left = less;

@@ -7,23 +7,25 @@ use native.Mathlib.Omega.{arith}
 use mathlib.Core.Path.{◌≡◌, refl, sym, ap, ap₂, ◌∙◌, subst, subst₂}
 use mathlib.Core.List.{List, [], ◌∷◌, map}
 use lib.ListN.{length, get_or, take, drop, length-map}
+use Rattle.std.specs.Prelude.{Result, Ok, Err}
 use Rattle.rules.specs.declared.Outcome.{Outcome}
-use Rattle.rules.specs.declared.Outcome.TheVariants.{Done, NotABlock}
+use Rattle.rules.specs.declared.Outcome.TheVariants.{Done, NotABlock, CheckFails, WrongFig, WrongField, WrongValue, EmptyStart, NotHeld, ShortBuffer, WrongTable, NotASheet, NotShown, TooMuch, TooManyPieces, BadCode}
 use Rattle.rules.specs.Block.{item, Placed, what_of, Walk, whole, Fig, figs}
 use Rattle.rules.specs.Field.{Field as FieldOf, is_linking, field_at, fields_of}
 use Rattle.rules.specs.Outcomes.{number_of, Verdict, taken, refused, no_block, verdict}
 use Rattle.rules.proofs.Basics.{Every, every_imp, every_map, cond_both}
 use Rattle.rules.proofs.Taken.{end_item, wrong_item, item-along, FigStands, figs_every, fields_every, taken_block, taken_few}
 use Rattle.rules.proofs.Arrays.{get_d_padded}
-use Rattle.rules.proofs.LinkageLaws.{Refused, Refusal, full_refusal, refused_full}
+use Rattle.rules.proofs.LinkageLaws.{Refused as RefusedFor, Refusal, full_refusal, refused_full, refused_numbers}
 use Rattle.field.specs.declared.FieldStep.{FieldStep}
 use Rattle.field.specs.declared.FieldStep.TheVariants.{Found, End, Wrong}
 use Rattle.field.specs.FieldStep.{field_step_at, meaning, found}
 use Rattle.field.proofs.Laws.{field_step_at_means}
 use Rattle.block.specs.declared.Spot.{Spot}
 use Rattle.block.specs.declared.Spots.{Spots}
-use Rattle.block.specs.declared.Judged.{Judged}
-use Rattle.block.specs.Judged.{nothing, field_or, field_in, Located, spot_of, field_of, items_of, standing, located_of, all_located, located, no_spot, no_spots, store_spots, judged_as, judged}
+use Rattle.block.specs.declared.Fault.TheVariants as Fault
+use Rattle.block.specs.declared.Refused.{Refused}
+use Rattle.block.specs.Judged.{nothing, field_or, field_in, Located, spot_of, field_of, items_of, standing, located_of, all_located, located, no_spot, store_spots, outcome_of, fault_by, outcome_in, place_in, judged_as, judged}
 use Rattle.block.proofs.Walks.{items_map, items_every, joined_every}
 use Rattle.block.proofs.Verdicts.{located_fields}
 
@@ -49,11 +51,11 @@ pub record SpotsAre (fib : List ℕ) (spots : Spots) (fs : List FieldOf) : Type 
   pub few : length fs ≤ 14
   pub each : (i : ℕ) → i < length fs → SpotIs fib (get_or spots.spots i no_spot) (get_or fs i no_field)
 
--- an answer says a verdict on a block: done, and all the fields; or the outcome that refuses, with its place, and none
-pub data JudgedAs (fib : List ℕ) (v : Verdict) (r : Judged) : Type 0 where
-  is_taken : (fs : List FieldOf) → v ≡ taken fs → r.outcome ≡ Done → r.place ≡ 0 → SpotsAre fib r.spots fs → JudgedAs fib v r
-  is_refused : (o : Outcome) (p : ℕ) → v ≡ refused o p → r.outcome ≡ o → r.place ≡ p → r.spots.count ≡ 0 → JudgedAs fib v r
-  is_no_block : v ≡ no_block → r.outcome ≡ NotABlock → r.place ≡ 0 → r.spots.count ≡ 0 → JudgedAs fib v r
+-- an answer says a verdict on a block: all the fields; or the fault that refuses, with its place
+pub data JudgedAs (fib : List ℕ) (v : Verdict) (r : Result Spots Refused) : Type 0 where
+  is_taken : (fs : List FieldOf) → v ≡ taken fs → (spots : Spots) → r ≡ Ok spots → SpotsAre fib spots fs → JudgedAs fib v r
+  is_refused : (f : Refused) → v ≡ refused (outcome_of f.fault) f.place → r ≡ Err f → JudgedAs fib v r
+  is_no_block : v ≡ no_block → r ≡ Err (record { fault = Fault.NotABlock; place = 0 }) → JudgedAs fib v r
 
 -- ---- a field at a place
 
@@ -144,36 +146,64 @@ spots_are fib fs v =
           (each_stands fib ls (located_stands fib b.parts b.size b.walked) i (omega arith));
     }
 
+-- a number of 2 to 6 is that of a fault
+fault_by_law : (o : Outcome) → 2 ≤ number_of o → number_of o ≤ 6 → outcome_of (fault_by o) ≡ o
+unfolding number_of fault_by
+fault_by_law Done a b = absurd (omega arith)
+fault_by_law NotABlock a b = refl
+fault_by_law CheckFails a b = refl
+fault_by_law WrongFig a b = refl
+fault_by_law WrongField a b = refl
+fault_by_law WrongValue a b = refl
+fault_by_law EmptyStart a b = refl
+fault_by_law NotHeld a b = absurd (omega arith)
+fault_by_law ShortBuffer a b = absurd (omega arith)
+fault_by_law WrongTable a b = absurd (omega arith)
+fault_by_law NotASheet a b = absurd (omega arith)
+fault_by_law NotShown a b = absurd (omega arith)
+fault_by_law TooMuch a b = absurd (omega arith)
+fault_by_law TooManyPieces a b = absurd (omega arith)
+fault_by_law BadCode a b = absurd (omega arith)
+
+-- so the outcome that refuses a block is that of its fault
+refused_fault : (fib : List ℕ) (o : Outcome) (p : ℕ) → verdict fib ≡ refused o p → outcome_of (fault_by o) ≡ o
+refused_fault fib o p e =
+    let n = refused_numbers (refused_full fib o p e).1 in
+    fault_by_law o n.0 n.1
+
 said_as : (fib : List ℕ) (v : Verdict) → verdict fib ≡ v → JudgedAs fib v (judged_as v (located fib))
-unfolding judged_as no_spots
-said_as fib (taken fs) e = is_taken fs refl refl refl (spots_are fib fs e)
-said_as fib (refused o p) e = is_refused o p refl refl refl refl
-said_as fib no_block e = is_no_block refl refl refl refl
+unfolding judged_as
+said_as fib (taken fs) e = is_taken fs refl _ refl (spots_are fib fs e)
+said_as fib (refused o p) e = is_refused (record { fault = fault_by o; place = p }) (ap (λ (x : Outcome). refused x p) (sym (refused_fault fib o p e))) refl
+said_as fib no_block e = is_no_block refl refl
 
 -- what a block is judged to be says the verdict of the rules
 pub judged_says : (fib : List ℕ) → JudgedAs fib (verdict fib) (judged fib)
 unfolding judged
 judged_says fib = said_as fib (verdict fib) refl
 
-pub says : (fib : List ℕ) {r : Judged} → r ≡ judged fib → JudgedAs fib (verdict fib) r
+pub says : (fib : List ℕ) {r : Result Spots Refused} → r ≡ judged fib → JudgedAs fib (verdict fib) r
 says fib e = subst (JudgedAs fib (verdict fib)) (sym e) (judged_says fib)
 
 -- ---- demand 1: a block is judged by one of the numbers 0 to 6
 
-pub data JudgeAnswer (fib : List ℕ) (r : Judged) : Type 0 where
+pub data JudgeAnswer (fib : List ℕ) (r : Result Spots Refused) : Type 0 where
   -- 0, with one spot a field
-  done : (fs : List FieldOf) → verdict fib ≡ taken fs → number_of r.outcome ≡ 0 → r.place ≡ 0 → r.spots.count ≡ length fs → JudgeAnswer fib r
+  done : (fs : List FieldOf) → verdict fib ≡ taken fs → number_of (outcome_in r) ≡ 0 → place_in r ≡ 0
+      → (spots : Spots) → r ≡ Ok spots → spots.count ≡ length fs → JudgeAnswer fib r
   -- 1
-  not_a_block : (length fib ≡ 32 → ⊥) → number_of r.outcome ≡ 1 → r.place ≡ 0 → r.spots ≡ no_spots → JudgeAnswer fib r
+  not_a_block : (length fib ≡ 32 → ⊥) → number_of (outcome_in r) ≡ 1 → place_in r ≡ 0 → (f : Refused) → r ≡ Err f → JudgeAnswer fib r
   -- 2 to 6, each for its reason, at its place
-  refused_block : length fib ≡ 32 → Refused fib (number_of r.outcome) r.place → r.spots ≡ no_spots → JudgeAnswer fib r
+  refused_block : length fib ≡ 32 → RefusedFor fib (number_of (outcome_in r)) (place_in r) → (f : Refused) → r ≡ Err f → JudgeAnswer fib r
 
 answer_as : (fib : List ℕ) (v : Verdict) → verdict fib ≡ v → JudgeAnswer fib (judged_as v (located fib))
 unfolding judged_as number_of
-answer_as fib (taken fs) e = done fs e refl refl (spots_are fib fs e).count
-answer_as fib (refused o p) e = let f = refused_full fib o p e in refused_block f.0 f.1 refl
-answer_as fib no_block e = not_a_block (λ l. subst (Refusal fib) e (full_refusal fib l)) refl refl refl
+answer_as fib (taken fs) e = done fs e refl refl _ refl (spots_are fib fs e).count
+answer_as fib (refused o p) e =
+    let f = refused_full fib o p e in
+    refused_block f.0 (subst (λ (x : Outcome). RefusedFor fib (number_of x) p) (sym (refused_fault fib o p e)) f.1) _ refl
+answer_as fib no_block e = not_a_block (λ l. subst (Refusal fib) e (full_refusal fib l)) refl refl _ refl
 
-pub judge_answers : (fib : List ℕ) (r : Judged) → r ≡ judged fib → JudgeAnswer fib r
+pub judge_answers : (fib : List ℕ) (r : Result Spots Refused) → r ≡ judged fib → JudgeAnswer fib r
 unfolding judged
 judge_answers fib r e = subst (JudgeAnswer fib) (sym e) (answer_as fib (verdict fib) refl)

@@ -1,7 +1,8 @@
--- What judging a block answers: where the fields of a taken block stand in it, in order, or the outcome that refuses it, with
--- its place; and what is read again at a spot.
-use Rattle.std.specs.Prelude.{ℕ, ◌+◌, ◌-◌, cond, List, [], ◌∷◌, map, length, replicate}
-use Rattle.rules.specs.declared.Outcome.TheVariants.{Done, NotABlock}
+-- What judging a block answers: where the fields of a taken block stand in it, in order, or why it is refused, with the place;
+-- and what is read again at a spot.
+use Rattle.std.specs.Prelude.{ℕ, ◌+◌, ◌-◌, cond, List, [], ◌∷◌, map, length, replicate, Result, Ok, Err}
+use Rattle.rules.specs.declared.Outcome.{Outcome}
+use Rattle.rules.specs.declared.Outcome.TheVariants.{Done, NotABlock, CheckFails, WrongFig, WrongField, WrongValue, EmptyStart, NotHeld, ShortBuffer, WrongTable, NotASheet, NotShown, TooMuch, TooManyPieces, BadCode}
 use Rattle.rules.specs.Arrays.{padded}
 use Rattle.rules.specs.Block.{Placed, Walk, whole, broken, Fig, figs}
 use Rattle.rules.specs.Field.{Field as FieldOf, is_linking, fields_of}
@@ -12,7 +13,8 @@ use Rattle.field.specs.declared.FieldStep.TheVariants.{Found, End, Wrong}
 use Rattle.field.specs.FieldStep.{field_step_at}
 use Rattle.block.specs.declared.Spot.{Spot}
 use Rattle.block.specs.declared.Spots.{Spots}
-use Rattle.block.specs.declared.Judged.{Judged}
+use Rattle.block.specs.declared.Fault.{Fault}
+use Rattle.block.specs.declared.Refused.{Refused}
 
 -- a field with nothing in it
 abbrev pub nothing : Field
@@ -97,12 +99,48 @@ no_spots = record { spots = replicate 14 no_spot; count = 0 }
 unfoldable pub store_spots : List Spot → Spots
 store_spots ss = record { spots = padded 14 no_spot ss; count = length ss }
 
--- the answer that says a verdict: done, and where the fields stand; or the outcome that refuses, with its place, and none
-unfoldable pub judged_as : Verdict → List Located → Judged
-judged_as (taken fs) ls = record { outcome = Done; place = 0; spots = store_spots (map spot_of ls) }
-judged_as (refused o p) ls = record { outcome = o; place = p; spots = no_spots }
-judged_as no_block ls = record { outcome = NotABlock; place = 0; spots = no_spots }
+-- the outcome that a fault is answered with
+abbrev pub outcome_of : Fault → Outcome
+outcome_of Fault.NotABlock = NotABlock
+outcome_of Fault.CheckFails = CheckFails
+outcome_of Fault.WrongFig = WrongFig
+outcome_of Fault.WrongField = WrongField
+outcome_of Fault.WrongValue = WrongValue
+outcome_of Fault.EmptyStart = EmptyStart
+
+-- the fault that an outcome answers; one that refuses no block answers none, and no verdict refuses by it
+unfoldable pub fault_by : Outcome → Fault
+fault_by Done = Fault.NotABlock
+fault_by NotABlock = Fault.NotABlock
+fault_by CheckFails = Fault.CheckFails
+fault_by WrongFig = Fault.WrongFig
+fault_by WrongField = Fault.WrongField
+fault_by WrongValue = Fault.WrongValue
+fault_by EmptyStart = Fault.EmptyStart
+fault_by NotHeld = Fault.NotABlock
+fault_by ShortBuffer = Fault.NotABlock
+fault_by WrongTable = Fault.NotABlock
+fault_by NotASheet = Fault.NotABlock
+fault_by NotShown = Fault.NotABlock
+fault_by TooMuch = Fault.NotABlock
+fault_by TooManyPieces = Fault.NotABlock
+fault_by BadCode = Fault.NotABlock
+
+-- the outcome and the place that an answer says: done, at 0, or those of a refusal
+abbrev pub outcome_in : Result Spots Refused → Outcome
+outcome_in (Ok spots) = Done
+outcome_in (Err r) = outcome_of r.fault
+
+abbrev pub place_in : Result Spots Refused → ℕ
+place_in (Ok spots) = 0
+place_in (Err r) = r.place
+
+-- the answer that says a verdict: where the fields stand, or the fault that refuses, at its place
+unfoldable pub judged_as : Verdict → List Located → Result Spots Refused
+judged_as (taken fs) ls = Ok (store_spots (map spot_of ls))
+judged_as (refused o p) ls = Err (record { fault = fault_by o; place = p })
+judged_as no_block ls = Err (record { fault = Fault.NotABlock; place = 0 })
 
 -- what a block is judged to be
-unfoldable pub judged : List ℕ → Judged
+unfoldable pub judged : List ℕ → Result Spots Refused
 judged fib = judged_as (verdict fib) (located fib)

@@ -1,12 +1,11 @@
 // What is in a block (document 01, Numbered outcomes): a block is taken, with its fields in order, or refused for 1 to 6 in
 // that order, each over the whole block before the next, at the place of the first fault of the class answered. One pass over the
-// block finds all of it: the order of 4, 5 and 6 is kept by a fault whose class only falls, from 7, no fault, to the smallest that any
-// field has, and whose place is that of the first field of that class.
+// block finds all of it: of two faults the one of the smaller number counts, and of two of one number the first.
 #![tactic(auto)]
 
 ghost use Rattle.std.specs.Prelude.{◌≡◌, length};
-ghost use Rattle.block.specs.Judged.{nothing, field_in, no_spots, judged};
-ghost use Rattle.block.specs.Faults.{class_in, worse, JudgesFigs, Concludes, CanPush, Pushes};
+ghost use Rattle.block.specs.Judged.{outcome_of, nothing, field_in, no_spots, judged};
+ghost use Rattle.block.specs.Faults.{fault_in, worse, JudgesFigs, Concludes, CanPush, Pushes};
 
 use field::{Field, FieldStep};
 use figs::{Cursor, FigStep};
@@ -22,37 +21,71 @@ pub struct Spot {
 }
 
 // The fields of a block, in order: the first count places, with nothing in the others. A block has 14 at most.
+// Kept: an array with its count, for a block's fields stand in fixed memory, with no heap.
 #[derive(Clone, Copy)]
 pub struct Spots {
     pub spots: [Spot; 14],
     pub count: usize,
 }
 
-// What a block is judged to be. A refused block has a place, counted from 0 in the block, which is 0 where its check fails, and no
-// fields; any other has the place 0.
-#[derive(Clone, Copy)]
-pub struct Judged {
-    pub outcome: Outcome,
+// Why a block is refused: outcomes 1 to 6, in the order in which they are answered.
+#[derive(Clone, Copy, PartialEq, Eq, PartialOrd, Ord)]
+pub enum Fault {
+    // 1: the block is not 32 bytes long
+    NotABlock,
+    // 2: the block's check fails
+    CheckFails,
+    // 3: a FIG's length is wrong
+    WrongFig,
+    // 4: linking fields do not fill their FIG
+    WrongField,
+    // 5: a field has a wrong value
+    WrongValue,
+    // 6: a start with count 0
+    EmptyStart,
+}
+
+impl From<Fault> for Outcome {
+    ghost from_gives = { λ fault o. o ≡ outcome_of fault };
+
+    fn from(fault: Fault) -> Outcome {
+        match fault {
+            Fault::NotABlock => Outcome::NotABlock,
+            Fault::CheckFails => Outcome::CheckFails,
+            Fault::WrongFig => Outcome::WrongFig,
+            Fault::WrongField => Outcome::WrongField,
+            Fault::WrongValue => Outcome::WrongValue,
+            Fault::EmptyStart => Outcome::EmptyStart,
+        }
+    }
+}
+
+// A refused block: why, and the place of the first fault of that class, counted from 0 in the block; 0 where it is no block or
+// its check fails.
+#[derive(Clone, Copy, PartialEq, Eq)]
+pub struct Refused {
+    pub fault: Fault,
     pub place: usize,
-    pub spots: Spots,
 }
 
-// A fault of a field: its class (4 the field does not fit, 5 a wrong value, 6 an empty start, 7 none), and the field's place in the
-// block.
-#[derive(Clone, Copy)]
-struct Fault {
-    class: u8,
-    place: usize,
+impl Fault {
+    // The fault at a place of the block.
+    fn at(self, place: usize) -> Refused
+        ensures { result ≡ record { fault = self; place = place } }
+    {
+        Refused { fault: self, place }
+    }
 }
 
-// What has been found in the FIGs so far: the first fault of the smallest class, and the fields.
+// What has been found in the FIGs so far: the first fault of the smallest number, if any, and the fields.
 #[derive(Clone, Copy)]
 struct Pushed {
-    fault: Fault,
+    fault: Option<Refused>,
     spots: Spots,
 }
 
 // No fields.
+#[tactic(auto, unfolding(crate::specs::Judged::no_spots))]
 pub fn no_spots() -> Spots
     ensures { result ≡ no_spots }
 {
@@ -89,6 +122,7 @@ fn no_field() -> Field
 
 impl Spot {
     // The field that stands at a spot of its FIG's body; one with nothing in it where none does.
+    #[tactic(auto, unfolding(crate::specs::Judged::field_in, crate::specs::Judged::field_or))]
     pub fn field(self, body: &[u8]) -> Field
         ensures { result ≡ field_in body.now self.place }
     {
@@ -100,39 +134,31 @@ impl Spot {
     }
 }
 
-// A block refused at a place, with no fields.
-fn refuse(outcome: Outcome, place: usize) -> Judged
-    ensures { result ≡ record { outcome = outcome; place = place; spots = no_spots } }
-{
-    Judged {
-        outcome,
-        place,
-        spots: no_spots(),
-    }
-}
-
-// The class of a field's fault: 5 a wrong value, 6 an empty start, 7 none.
-fn class_in(f: Field) -> u8
-    ensures { result ≡ class_in f }
+// The fault of a field at a place of the block, if it has one: 5 a wrong value, 6 an empty start.
+#[tactic(auto, unfolding(crate::specs::Faults::fault_in))]
+fn fault_in(f: Field, place: usize) -> Option<Refused>
+    ensures { result ≡ fault_in f place }
 {
     if f.wrong_value() {
-        return 5;
+        Some(Fault::WrongValue.at(place))
+    } else if f.empty_start() {
+        Some(Fault::EmptyStart.at(place))
+    } else {
+        None
     }
-    if f.empty_start() {
-        return 6;
-    }
-    7
 }
 
-// The fault so far, or that of a field behind it: the one of the smaller class, and of one class the first.
-fn worse_of(fault: Fault, class: u8, place: usize) -> Fault
-    ensures { result ≡ worse fault (record { class = class; place = place }) }
+// Of the first fault so far and one behind it: the one of the smaller number, and of one number the first.
+fn worse_of(first: Option<Refused>, behind: Option<Refused>) -> Option<Refused>
+    ensures { result ≡ worse first behind }
 {
-    if class < fault.class {
-        Fault { class, place }
-    } else {
-        fault
-    }
+    let Some(a) = first else {
+        return behind;
+    };
+    let Some(b) = behind else {
+        return first;
+    };
+    if b.fault < a.fault { behind } else { first }
 }
 
 // With the fields of a FIG's body fib[start..end] besides.
@@ -145,17 +171,17 @@ fn push_fields(fib: &[u8], start: usize, end: usize, before: Pushed) -> Pushed
     let mut spots = before.spots;
     let mut at = 1;
     loop {
-        let step = field::field_at(body, at);
-        match step {
+        match field::field_at(body, at) {
             FieldStep::End => return Pushed { fault, spots },
             FieldStep::Wrong => {
+                let misfit = Fault::WrongField.at(start + at);
                 return Pushed {
-                    fault: worse_of(fault, 4, start + at),
+                    fault: worse_of(fault, Some(misfit)),
                     spots,
                 };
             }
             FieldStep::Found(f, next) => {
-                fault = worse_of(fault, class_in(f), start + at);
+                fault = worse_of(fault, fault_in(f, start + at));
                 let n = spots.count;
                 spots.spots[n] = Spot {
                     start: start as u8,
@@ -169,44 +195,31 @@ fn push_fields(fib: &[u8], start: usize, end: usize, before: Pushed) -> Pushed
     }
 }
 
-// The outcome of a block whose FIGs are all right, by the first fault of the smallest class.
-fn conclude(found: Pushed) -> Judged
+// The answer to a block whose FIGs are all right: where its fields stand, unless one is at fault.
+#[tactic(auto, unfolding(crate::specs::Faults::Concludes, crate::specs::Faults::answer_of))]
+fn conclude(found: Pushed) -> Result<Spots, Refused>
     ensures { Concludes found result }
 {
-    let class = found.fault.class;
-    let place = found.fault.place;
-    if class == 4 {
-        return refuse(Outcome::WrongField, place);
-    }
-    if class == 5 {
-        return refuse(Outcome::WrongValue, place);
-    }
-    if class == 6 {
-        return refuse(Outcome::EmptyStart, place);
-    }
-    let spots = found.spots;
-    Judged {
-        outcome: Outcome::Done,
-        place: 0,
-        spots,
+    match found.fault {
+        Some(refused) => Err(refused),
+        None => Ok(found.spots),
     }
 }
 
 // What the FIGs of a block and the fields in them come to: 3, then 4, 5 and 6.
-fn judge_figs(fib: &[u8]) -> Judged
+fn judge_figs(fib: &[u8]) -> Result<Spots, Refused>
     requires { length fib.now ≡ 32 }
     ensures { JudgesFigs fib.now result }
 {
     let mut cursor = Cursor::first();
     let mut found = Pushed {
-        fault: Fault { class: 7, place: 0 },
+        fault: None,
         spots: no_spots(),
     };
     loop {
-        let step = cursor.step(fib);
-        match step {
+        match cursor.step(fib) {
             FigStep::End => return conclude(found),
-            FigStep::Wrong => return refuse(Outcome::WrongFig, cursor.at),
+            FigStep::Wrong => return Err(Fault::WrongFig.at(cursor.at)),
             FigStep::Fig {
                 kind,
                 start,
@@ -222,16 +235,16 @@ fn judge_figs(fib: &[u8]) -> Judged
     }
 }
 
-// What is in a block: taken, with its fields, or refused (1 to 6 in that order, each over the whole block before the next), with the
-// place of the first fault of the class answered.
-pub fn judge(fib: &[u8]) -> Judged
+// What is in a block: where its fields stand, or why it is refused (1 to 6 in that order, each over the whole block before the
+// next), with the place of the first fault of the class answered.
+pub fn judge(fib: &[u8]) -> Result<Spots, Refused>
     ensures { result ≡ judged fib.now }
 {
     if fib.len() != 32 {
-        return refuse(Outcome::NotABlock, 0);
+        return Err(Fault::NotABlock.at(0));
     }
     if !crc::check_holds(fib) {
-        return refuse(Outcome::CheckFails, 0);
+        return Err(Fault::CheckFails.at(0));
     }
     judge_figs(fib)
 }

@@ -42,6 +42,7 @@ pub enum Identifier {
 }
 
 // A field's head. Its identifiers are count numbers of its width, from place from of the FIG's body.
+// Kept: bits as the numbers 0 and 1, for key_of, width and first_kind of the rules (specs/Field.antt there) reckon with them.
 #[derive(Clone, Copy)]
 pub struct Field {
     pub cn: u8,
@@ -60,6 +61,7 @@ pub struct Field {
 }
 
 // What stands at a place of a body.
+// Kept: three arms, one for each that Step of the rules has, which field_step_at and found of specs/FieldStep.antt say in turn.
 #[derive(Clone, Copy)]
 pub enum FieldStep {
     // A field, and the place after it.
@@ -71,23 +73,18 @@ pub enum FieldStep {
 }
 
 // Whether a FIG of this type and body carries service linking.
+#[tactic(auto, unfolding(crate::specs::FieldStep::linking, rules::specs::Field::is_linking))]
 pub fn is_linking(kind: u8, body: &[u8]) -> bool
     ensures { result ≡ linking kind body.now }
 {
-    if kind != 0 {
-        return false;
-    }
-    byte_at(body, 0) % 32 == 6
+    kind == 0 && byte_at(body, 0) % 32 == 6
 }
 
 // The byte at a place; one beyond the body counts as 0.
 fn byte_at(body: &[u8], place: usize) -> u8
     ensures { result ≡ get_or body.now place 0 }
 {
-    if place < body.len() {
-        return body[place];
-    }
-    0
+    body.get(place).copied().unwrap_or(0)
 }
 
 // The head of a field, from its FIG's byte h and its own three, the third 0 where there is no list.
@@ -102,11 +99,11 @@ fn head(flag: u8, h: u8, a: u8, b: u8, c: u8, from: usize) -> Field
         la: a / 64 % 2,
         hard: a / 32 % 2,
         ils: a / 16 % 2,
-        lsn: (a % 16) as u16 * 256 + b as u16,
+        lsn: u16::from(a % 16) * 256 + u16::from(b),
         rfu: c / 128,
         qualifier: c / 32 % 4,
         shorthand: c / 16 % 2,
-        count: (c % 16) as usize,
+        count: usize::from(c % 16),
         from,
     }
 }
@@ -143,11 +140,11 @@ impl Field {
     pub fn key(self) -> u32
         ensures { result ≡ key_in self }
     {
-        32768 * self.oe as u32
-            + 16384 * self.pd as u32
-            + 8192 * self.hard as u32
-            + 4096 * self.ils as u32
-            + self.lsn as u32
+        32768 * u32::from(self.oe)
+            + 16384 * u32::from(self.pd)
+            + 8192 * u32::from(self.hard)
+            + 4096 * u32::from(self.ils)
+            + u32::from(self.lsn)
     }
 
     // The field brings a list.
@@ -165,84 +162,67 @@ impl Field {
     }
 
     // A value is refused: LSN 0, Rfu or shorthand 1, qualifier 2, or P/D 1 with a qualifier not 0.
+    #[tactic(auto, unfolding(crate::specs::FieldStep::wrong_in))]
     pub fn wrong_value(self) -> bool
         ensures { result ≡ wrong_in self }
     {
-        if self.lsn == 0 {
-            return true;
-        }
-        if self.rfu == 1 {
-            return true;
-        }
-        if self.shorthand == 1 {
-            return true;
-        }
-        if self.qualifier == 2 {
-            return true;
-        }
-        if self.pd == 1 {
-            return self.qualifier != 0;
-        }
-        false
+        self.lsn == 0
+            || self.rfu == 1
+            || self.shorthand == 1
+            || self.qualifier == 2
+            || (self.pd == 1 && self.qualifier != 0)
     }
 
     // A start with count 0.
+    #[tactic(auto, unfolding(crate::specs::FieldStep::empty_in))]
     pub fn empty_start(self) -> bool
         ensures { result ≡ empty_in self }
     {
-        if self.flag != 1 {
-            return false;
-        }
-        if self.cn == 1 {
-            return false;
-        }
-        self.count == 0
+        self.has_list() && !self.is_continuation() && self.count == 0
     }
 
     // The bytes of an identifier: four if P/D is 1, else three if ILS is 1, else two.
+    #[tactic(auto, unfolding(rules::specs::Field::width))]
     pub fn width(self) -> usize
         ensures { result ≡ width self.pd self.ils }
     {
         if self.pd == 1 {
-            return 4;
+            4
+        } else if self.ils == 1 {
+            3
+        } else {
+            2
         }
-        if self.ils == 1 {
-            return 3;
-        }
-        2
     }
 
     // The i-th identifier: of the kind that its place and the qualifier give, its number read from the body. An index of 16
     // or more, or a body that ends before the identifiers begin, gives DAB service 0.
+    #[tactic(auto, unfolding(crate::specs::FieldStep::identifier_at))]
     pub fn identifier(self, body: &[u8], i: usize) -> Identifier
         ensures { result ≡ identifier_at body.now self i }
     {
-        if 16 <= i {
-            return Identifier::Dab(Service(0));
-        }
-        let from = self.from;
-        if body.len() <= from {
+        if 16 <= i || body.len() <= self.from {
             return Identifier::Dab(Service(0));
         }
         let w = self.width();
-        of_kind(self.kind_at(i), number_at(body, from + i * w, w))
+        of_kind(self.kind_at(i), number_at(body, self.from + i * w, w))
     }
 
     // The kind of the i-th identifier: the first of a start is as first_kind says, the others are of the qualifier's kind.
+    #[tactic(auto, unfolding(crate::specs::FieldStep::kind_at))]
     fn kind_at(self, i: usize) -> u8
         ensures { result ≡ kind_at self i }
     {
-        if self.cn == 1 {
-            return self.qualifier;
+        if i == 0 && !self.is_continuation() {
+            first_kind(self.oe, self.qualifier)
+        } else {
+            self.qualifier
         }
-        if i == 0 {
-            return first_kind(self.oe, self.qualifier);
-        }
-        self.qualifier
     }
 }
 
 // The kind of a start's first identifier: with OE 0 a DAB service, with OE 1 of the qualifier's kind like the rest.
+#[tactic(auto, unfolding(rules::specs::Field::first_kind))]
 pub fn first_kind(oe: u8, qualifier: u8) -> u8
     ensures { result ≡ first_kind oe qualifier }
 {
@@ -250,32 +230,32 @@ pub fn first_kind(oe: u8, qualifier: u8) -> u8
 }
 
 // The number that w bytes write from a place on, the highest byte first.
+// Kept: byte by byte, for with a loop over the w bytes reading a field's identifiers takes a fifth more instructions.
 fn number_at(body: &[u8], place: usize, w: usize) -> u32
     requires { (place + 4 < 2 ^ 64) × ((2 ≤ w) × (w ≤ 4)) }
     ensures { result ≡ number_at w body.now place }
 {
-    let two = byte_at(body, place) as u32 * 256 + byte_at(body, place + 1) as u32;
+    let two = u32::from(byte_at(body, place)) * 256 + u32::from(byte_at(body, place + 1));
     if w == 2 {
         return two;
     }
-    let three = two * 256 + byte_at(body, place + 2) as u32;
+    let three = two * 256 + u32::from(byte_at(body, place + 2));
     if w == 3 {
         return three;
     }
-    three * 256 + byte_at(body, place + 3) as u32
+    three * 256 + u32::from(byte_at(body, place + 3))
 }
 
 // An identifier of a kind.
+#[tactic(auto, unfolding(crate::specs::FieldStep::of_kind))]
 fn of_kind(kind: u8, number: u32) -> Identifier
     ensures { result ≡ of_kind kind number }
 {
-    if kind == rules::RDS {
-        return Identifier::Rds(Pi(number));
+    match kind {
+        rules::RDS => Identifier::Rds(Pi(number)),
+        rules::DRM => Identifier::Drm(Amss(number)),
+        _ => Identifier::Dab(Service(number)),
     }
-    if kind == rules::DRM {
-        return Identifier::Drm(Amss(number));
-    }
-    Identifier::Dab(Service(number))
 }
 
 impl Identifier {

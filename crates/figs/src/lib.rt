@@ -12,6 +12,7 @@ pub struct Cursor {
 }
 
 // What stands at a place.
+// Kept: three arms, one for each that Step of the rules has, which step_at and found of specs/Figs.antt say in turn.
 #[derive(Clone, Copy)]
 pub enum FigStep {
     // A FIG: its type, its body fib[start..end], and the place after it.
@@ -36,6 +37,7 @@ impl Cursor {
     }
 
     // What stands at the cursor.
+    #[tactic(auto, unfolding(crate::specs::Figs::step_at))]
     pub fn step(self, fib: &[u8]) -> FigStep
         ensures { result ≡ step_at fib.now self.at }
     {
@@ -50,7 +52,7 @@ impl Cursor {
         if byte == 255 {
             return FigStep::End;
         }
-        let length = (byte % 32) as usize;
+        let length = usize::from(byte % 32);
         if length == 0 {
             return FigStep::Wrong;
         }

@@ -1,93 +1,117 @@
--- The laws of telling a recording block by block, on plain lists. In order: the blocks from a place on, and telling them; what is told
+-- The laws of telling a recording block by block, on plain lists. In order: the blocks that are left, and telling them; what is told
 -- of a chunk and at the end; a recording that is checked: nothing of it, a chunk more, its end.
-use Prim.Native.Nat.{ℕ, ◌+◌, ◌-◌, ◌/◌, ◌%◌, ◌≤◌, ◌<◌}
+use Prim.Native.Nat.{ℕ, suc, min, ◌+◌, ◌*◌, ◌/◌, ◌%◌, ◌≤◌, ◌<◌}
 use native.Mathlib.Nat.{zero-add}
 use native.Mathlib.Omega.{arith}
 use mathlib.Core.Path.{◌≡◌, sym, ◌∙◌, ap, ap₂}
-use mathlib.Core.Bool.{Bool, true, false}
+use mathlib.Core.Bool.{Bool, true}
 use mathlib.Core.List.{List, [], ◌++◌}
 use lib.ListN.{length, take, drop, length-append}
-use lib.Seq.{drop-drop}
+use lib.Seq.{take-append-le, drop-append-le}
+use Rattle.std.proofs.lemmas.List.{take_all}
+use Rattle.std.proofs.Math.ListN.{drop_of_length-le}
 use Rattle.rules.specs.Block.{bit}
 use Rattle.rules.specs.Outcomes.{verdict, is_refused, refused_of, refusals}
-use Rattle.out.proofs.Runs.{Going, going_start, going_on, going_end}
-use Rattle.report.specs.declared.Told.{Told}
+use Rattle.std.specs.Borrow.{MutBor}
+use Rattle.out.specs.declared.Page.{Page}
+use Rattle.out.specs.Page.{Opens, Writes}
+use Rattle.out.proofs.Answers.{puts_front}
+use Rattle.out.proofs.Pages.{Going, going_start, going_on, going_end, opened_puts}
 use Rattle.report.specs.Report.{block_line, lines_of, counts_text, report}
 use Rattle.report.specs.Telling.{Tells}
 use Rattle.report.proofs.Lines.{lines_append, refused_append, refused_few}
+use Rattle.std.specs.Prelude.{IsNone, IsOk}
+use Rattle.std.specs.declared.option.Option.{Option}
+use Rattle.std.specs.declared.result.Result.{Result}
+use Rattle.std.specs.declared.io.Error.{Error}
 use Rattle.input.specs.declared.Received.{Received}
 use Rattle.input.specs.declared.checking.Checked.{Checked}
-use Rattle.input.specs.declared.checking.CheckTurn.{CheckTurn}
 use Rattle.input.specs.Reading.{Reading, ReadsMore}
 use Rattle.input.specs.Checking.{Checking, CheckedOn, Follows, Ends}
-use Rattle.input.proofs.Laws.{block_more, block_width, block_none, with_failed, reading_failed}
+use Rattle.input.proofs.Laws.{reading_failed}
 
--- ---- the blocks from a place on
+-- ---- the blocks that are left
 
--- their lines, after so many blocks before the bytes, and how many of them are refused
-abbrev lines_from : ℕ → List ℕ → ℕ → List ℕ
-lines_from before bytes at = lines_of (length (drop at bytes) / 32) (before + at / 32) (drop at bytes)
+-- their lines, after so many blocks before them, and how many of them are refused
+abbrev lines_in : ℕ → List ℕ → List ℕ
+lines_in before bytes = lines_of (length bytes / 32) before bytes
 
-abbrev refused_from : List ℕ → ℕ → ℕ
-refused_from bytes at = refused_of (length (drop at bytes) / 32) (drop at bytes)
+abbrev refused_in : List ℕ → ℕ
+refused_in bytes = refused_of (length bytes / 32) bytes
 
--- the block there, as the code takes it
-abbrev block_at : List ℕ → ℕ → List ℕ
-block_at bytes at = take (at + 32 - at) (drop at bytes)
+-- a block, and those after it
+module _ (block rest : List ℕ) (wide : length block ≡ 32) where
+  count : length (block ++ rest) / 32 ≡ suc (length rest / 32)
+  count = omega (arith, length-append block rest)
 
-module _ (before : ℕ) (bytes : List ℕ) (at : ℕ) where
-  lines_here : 32 ≤ length bytes - at
-      → lines_from before bytes at ≡ block_line (before + at / 32 + 1) (verdict (block_at bytes at)) ++ lines_from before bytes (at + 32)
+  block_first : take 32 (block ++ rest) ≡ block
+  block_first = take-append-le 32 block rest (omega arith) ∙ take_all 32 block (omega arith)
+
+  rest_after : drop 32 (block ++ rest) ≡ rest
+  rest_after = drop-append-le 32 block rest (omega arith) ∙ ap (λ (x : List ℕ). x ++ rest) (drop_of_length-le block {i = 32} (omega arith))
+
+  lines_here : (before : ℕ) → lines_in before (block ++ rest) ≡ block_line (before + 1) (verdict block) ++ lines_in (before + 1) rest
   unfolding lines_of
-  lines_here more =
-      let number : before + (at + 32) / 32 ≡ before + at / 32 + 1 = omega arith in
-      rw (block_more bytes at more, block_width bytes at, number, drop-drop 32 at bytes)
+  lines_here before = rw (count, block_first, rest_after)
 
-  lines_end : length bytes - at < 32 → lines_from before bytes at ≡ []
+  refused_here : refused_in (block ++ rest) ≡ bit (is_refused (verdict block)) + refused_in rest
+  unfolding refused_of
+  refused_here = rw (count, block_first, rest_after)
+
+-- none
+module _ (rest : List ℕ) (few : length rest < 32) where
+  none : length rest / 32 ≡ 0
+  none = omega arith
+
+  lines_end : (before : ℕ) → lines_in before rest ≡ []
   unfolding lines_of
-  lines_end last = rw (block_none bytes at last)
+  lines_end before = rw none
 
-module _ (bytes : List ℕ) (at : ℕ) where
-  refused_here : 32 ≤ length bytes - at → refused_from bytes at ≡ bit (is_refused (verdict (block_at bytes at))) + refused_from bytes (at + 32)
+  refused_end : refused_in rest ≡ 0
   unfolding refused_of
-  refused_here more = rw (block_more bytes at more, block_width bytes at, drop-drop 32 at bytes)
+  refused_end = rw none
 
-  refused_end : length bytes - at < 32 → refused_from bytes at ≡ 0
-  unfolding refused_of
-  refused_end last = rw (block_none bytes at last)
-
--- telling block by block: the lines from a place on are what is left to write, and the refused ones so far, with those from it on,
+-- telling block by block: the lines of what is left are what is left to write, and the refused ones so far, with those that are left,
 -- are all
-pub record Telling (old : List ℕ) (before : ℕ) (bytes out : List ℕ) (next refused at : ℕ) : Type 0 where
-  pub going : Going old 0 (lines_of (length bytes / 32) before bytes) out next (lines_from before bytes at)
-  pub all : refused + refused_from bytes at ≡ refused_of (length bytes / 32) bytes
+pub record Telling (old : Page) (before : ℕ) (bytes : List ℕ) (page : Page) (refused done : ℕ) (rest : List ℕ) : Type 0 where
+  pub going : Going old (lines_in before bytes) page (lines_in (before + done) rest)
+  pub all : refused + refused_in rest ≡ refused_in bytes
+  pub sizes : done * 32 + length rest ≡ length bytes
 
-pub telling_start : (old : List ℕ) (before : ℕ) (bytes : List ℕ) → Telling old before bytes old 0 0 0
+pub telling_start : (old : Page) (before : ℕ) (bytes : List ℕ) → Telling old before bytes old 0 0 bytes
 telling_start old before bytes =
-    let z : before + 0 / 32 ≡ before = omega arith in
-    record { going = rw z (going_start old (lines_of (length bytes / 32) before bytes) 0 0 (omega arith)); all = omega arith }
+    let z : before + 0 ≡ before = omega arith in
+    record { going = rw z (going_start old (lines_in before bytes)); all = omega arith; sizes = omega arith }
 
-module _ {old : List ℕ} {before : ℕ} {bytes out : List ℕ} {next refused at : ℕ} (t : Telling old before bytes out next refused at) where
-  module _ {new : List ℕ} {told : Told} (more : 32 ≤ length bytes - at)
-      (tells : Tells out next (block_line (before + at / 32 + 1) (verdict (block_at bytes at))) (bit (is_refused (verdict (block_at bytes at)))) new told) where
-    pub telling_on : Telling old before bytes new told.next (refused + told.refused) (at + 32)
+module _ {old page : Page} {before refused done : ℕ} {bytes left : List ℕ} (t : Telling old before bytes page refused done left) where
+  module _ (block rest : List ℕ) (number after more : ℕ) {new : Page} {answer : Bool} (here : left ≡ block ++ rest) (wide : length block ≡ 32)
+      (counted : number ≡ done) (up : after ≡ done + 1) (tells : Tells page (block_line (before + number + 1) (verdict block)) (is_refused (verdict block)) new answer)
+      (added : more ≡ bit answer) where
+    pub telling_on : Telling old before bytes new (refused + more) after rest
     telling_on =
+        let n : before + after ≡ before + done + 1 = omega arith in
+        let is : more ≡ bit (is_refused (verdict block)) = added ∙ ap bit tells.refused_is in
         record {
-          going = going_on (lines_here before bytes at more) t.going tells.puts;
-          all = omega (arith, t.all, tells.refused_are, refused_here bytes at more);
+          going = rw n (going_on (rw here (lines_here block rest wide (before + done))) t.going (rw counted at tells.writes));
+          all = omega (arith, t.all, is, ap refused_in here, refused_here block rest wide);
+          sizes = omega (arith, t.sizes, ap length here, length-append block rest);
         }
 
     -- no more are refused than there are bytes
-    pub telling_within : refused + told.refused ≤ length bytes
+    pub telling_within : refused + more ≤ length bytes
     telling_within = omega (arith, telling_on.all, refused_few (length bytes / 32) bytes)
 
-  pub telling_end : length bytes - at < 32
-      → Tells old 0 (lines_of (length bytes / 32) before bytes) (refused_of (length bytes / 32) bytes) out (record { next = next; refused = refused })
-  telling_end last =
-      record {
-        puts = going_end (lines_end before bytes at last) t.going;
-        refused_are = omega (arith, t.all, refused_end bytes at last);
-      }
+  module _ (few : length left < 32) where
+    pub telling_end : Writes old (lines_in before bytes) page
+    telling_end = going_end (lines_end left few (before + done)) t.going
+
+    pub telling_counts : refused ≡ refused_in bytes
+    telling_counts = omega (arith, t.all, refused_end left few)
+
+-- what stands at the front of a buffer, on which a page was opened and a text written that finds room
+pub page_front : {l : MutBor (List ℕ)} {p q : Page} {us text : List ℕ} {size : ℕ} → Opens l p → Writes p us q
+    → size ≡ min q.at (length q.buffer.now) → text ≡ q.buffer.now → length us ≤ length l.now → take size text ≡ us
+page_front o w s t h = rw (s, t) (puts_front (opened_puts o w) h)
 
 -- ---- what is told
 
@@ -108,17 +132,17 @@ chunk_follows before chunk text r even e =
     }
 
 -- at the end: the counts of all that was read
-pub counts_end : (r : Checked) (text : List ℕ) → Checking r → (r.received.failed ≡ false) × (r.written ≡ true)
+pub counts_end : (r : Checked) (text : List ℕ) → Checking r → IsNone r.received.failed → IsOk r.written
     → text ≡ counts_text (r.received.size / 32) r.refused r.received.full r.received.rest → Ends r text
 unfolding report refusals
-counts_end r text c s e =
+counts_end r text c f w e =
     let a = c.read in
-    record { read = c; to_its_end = s.0; lines_written = s.1; whole = ap (λ (x : List ℕ). lines_of (length a.bytes / 32) 0 a.bytes ++ x) (e ∙ rw (a.size, c.refused, a.full, a.rest)) }
+    record { read = c; to_its_end = f; lines_written = w; whole = ap (λ (x : List ℕ). lines_of (length a.bytes / 32) 0 a.bytes ++ x) (e ∙ rw (a.size, c.refused, a.full, a.rest)) }
 
 -- ---- a recording
 
 -- nothing read yet
-pub checking_nothing : (r : Received) (written : Bool) → Reading r → r.size ≤ 0 → Checking (record { received = r; refused = 0; written = written })
+pub checking_nothing : (r : Received) (written : Result (Unit {0}) Error) → Reading r → r.size ≤ 0 → Checking (record { received = r; refused = 0; written = written })
 checking_nothing r written a none = record { read = a; refused = omega (arith, a.size, refused_few (length a.bytes / 32) a.bytes) }
 
 -- no more are refused than there are bytes
@@ -129,12 +153,9 @@ refused_fit before chunk told c e =
     omega (arith, c.refused, c.read.size, refused_few (length a / 32) a, refused_few (length chunk / 32) chunk)
 
 -- a chunk more
-module _ (before : Checked) (chunk : List ℕ) (received : Received) (told : ℕ) (c : Checking before) (even : before.received.size % 32 ≡ 0)
-    (reads : ReadsMore before.received chunk received) (refused : told ≡ refused_of (length chunk / 32) chunk) (written : Bool) where
-  abbrev then : Checked
-  then = record { received = received; refused = before.refused + told; written = written }
-
-  checking_chunk : Checking then
+module _ (before now : Checked) (chunk : List ℕ) (c : Checking before) (even : before.received.size % 32 ≡ 0)
+    (reads : ReadsMore before.received chunk now.received) (refused : now.refused ≡ before.refused + refused_of (length chunk / 32) chunk) where
+  checking_chunk : Checking now
   unfolding ReadsMore
   checking_chunk =
       let a = c.read.bytes in
@@ -143,25 +164,23 @@ module _ (before : Checked) (chunk : List ℕ) (received : Received) (told : ℕ
       record {
         read = b.0;
         refused =
-            ap₂ ◌+◌ c.refused refused ∙ sym (refused_append (length a / 32) (length chunk / 32) a chunk (omega (arith, c.read.size)))
+            refused ∙ ap (λ (x : ℕ). x + refused_of (length chunk / 32) chunk) c.refused
+            ∙ sym (refused_append (length a / 32) (length chunk / 32) a chunk (omega (arith, c.read.size)))
             ∙ ap₂ refused_of (sym all) (sym b.1);
       }
 
   -- after which the input may go on if it has whole blocks
-  pub checked_on : (more : Bool) (most : ℕ) → received.size ≡ before.received.size + length chunk → length chunk ≤ most
-      → (more ≡ true → length chunk % 32 ≡ 0) → CheckedOn (record { checked = then; more = more }) (before.received.size + most)
+  pub checked_on : (more : Bool) (most : ℕ) → now.received.size ≡ before.received.size + length chunk → length chunk ≤ most
+      → (more ≡ true → length chunk % 32 ≡ 0) → CheckedOn now more (before.received.size + most)
   checked_on more most size within whole =
       record { read = checking_chunk; even = λ e. omega (arith, whole e); within = omega arith }
 
--- that the reading failed after these bytes, or whether all was written, changes nothing of them
-pub checking_failed : (r : Checked) (failed : Bool) → Checking r
-    → Checking (record { received = with_failed r.received failed; refused = r.refused; written = r.written })
+-- that the reading failed after these bytes changes nothing of them
+pub checking_failed : (r : Checked) (failed : Option Error) → Checking r
+    → Checking (record { received = record { table = r.received.table; rest = r.received.rest; full = r.received.full; refused = r.received.refused; size = r.received.size; good = r.received.good; failed = failed }; refused = r.refused; written = r.written })
 unfolding reading_failed
 checking_failed r failed c = record { read = reading_failed r.received failed c.read; refused = c.refused }
 
-pub checking_written : (r : Checked) (written : Bool) → Checking r → Checking (record { received = r.received; refused = r.refused; written = written })
-checking_written r written c = record { read = c.read; refused = c.refused }
-
 -- a larger bound
-pub checked_more : (t : CheckTurn) (m n : ℕ) → CheckedOn t m → m ≤ n → CheckedOn t n
-checked_more t m n h l = record { read = h.read; even = h.even; within = omega (arith, h.within) }
+pub checked_more : (r : Checked) (more : Bool) (m n : ℕ) → CheckedOn r more m → m ≤ n → CheckedOn r more n
+checked_more r more m n h l = record { read = h.read; even = h.even; within = omega (arith, h.within) }

@@ -1,14 +1,16 @@
 -- The laws of reading an input chunk by chunk, on plain lists. In order: bytes; whole blocks from a place on; the check of some
 -- block, from a place on, of two lists and as it is kept; the starts without room, of two lists and how many; a recording of nothing,
 -- of a chunk more and at its end.
-use Prim.Native.Nat.{ℕ, zero, suc, ◌+◌, ◌-◌, ◌*◌, ◌/◌, ◌%◌, ◌≤◌, ◌<◌}
+use Prim.Native.Nat.{ℕ, zero, suc, ◌+◌, ◌*◌, ◌/◌, ◌%◌, ◌≤◌, ◌<◌}
 use native.Mathlib.Nat.{zero-add}
 use native.Mathlib.Omega.{arith}
 use mathlib.Core.Path.{◌≡◌, refl, sym, ◌∙◌, ap, ap₂}
 use mathlib.Core.Bool.{Bool, true, false, ◌&&◌, ◌||◌, or_assoc}
 use mathlib.Core.List.{List, [], ◌∷◌, ◌++◌}
 use lib.ListN.{length, get_or, take, drop, length-append, length-drop}
-use lib.Seq.{length-take-le, take-append-le, drop-append-le, drop-drop}
+use Rattle.std.proofs.lemmas.List.{take_all}
+use Rattle.std.proofs.Math.Bool.{or-false}
+use lib.Seq.{length-take-le, take-append-le, drop-append-le}
 use lib.Dec.{eqb}
 use Rattle.input.specs.Counts.{IsPrefixLen}
 use Rattle.rules.specs.declared.Note.{Note}
@@ -24,8 +26,10 @@ use Rattle.table.proofs.GivenLaws.{given_content}
 use Rattle.report.proofs.Lines.{refused_append, refused_few}
 use Rattle.reading.specs.declared.Recorded.{Recorded}
 use Rattle.reading.specs.Runs.{recorded_as, unrecorded}
+use Rattle.std.specs.Prelude.{None}
+use Rattle.std.specs.declared.option.Option.{Option}
+use Rattle.std.specs.declared.io.Error.{Error}
 use Rattle.input.specs.declared.Received.{Received}
-use Rattle.input.specs.declared.Turn.{Turn}
 use Rattle.input.specs.Reading.{some_holds, good_in, Reading, ReadsMore, ReadOn}
 
 -- ---- bytes
@@ -40,48 +44,7 @@ bytes_append [] b p q i = q i
 bytes_append (x ∷ a) b p q zero = p 0
 bytes_append (x ∷ a) b p q (suc i) = bytes_append a b (λ j. p (suc j)) q i
 
--- ---- whole blocks
-
-module _ (bytes : List ℕ) (at : ℕ) where
-  -- one at a place, and those after it
-  pub block_more : 32 ≤ length bytes - at → length (drop at bytes) / 32 ≡ suc (length (drop (at + 32) bytes) / 32)
-  block_more h = omega (arith, length-drop at bytes, length-drop (at + 32) bytes)
-
-  -- it has 32 bytes, as the code takes it
-  pub block_width : at + 32 - at ≡ 32
-  block_width = omega arith
-
-  -- none is left
-  pub block_none : length bytes - at < 32 → length (drop at bytes) / 32 ≡ 0
-  block_none h = omega (arith, length-drop at bytes)
-
 -- ---- the check of some block
-
--- the test of the block at a place, as the code makes it
-abbrev pub tested_at : List ℕ → ℕ → Bool
-tested_at bytes at = eqb (length (take (at + 32 - at) (drop at bytes))) 32 && check_holds (take (at + 32 - at) (drop at bytes))
-
--- the search so far: what the bytes from a place on say, they all say
-module _ (bytes : List ℕ) (at : ℕ) (so : good_in (drop at bytes) ≡ good_in bytes) where
-  -- it ends where no whole block is left
-  pub good_end : length bytes - at < 32 → false ≡ good_in bytes
-  unfolding good_in some_holds
-  good_end h = rw (block_none bytes at h) at so
-
-  module _ (holds : Bool) (more : 32 ≤ length bytes - at) (tested : holds ≡ tested_at bytes at) where
-    -- the block there, or those after it
-    good_block : (holds || good_in (drop (at + 32) bytes)) ≡ good_in bytes
-    unfolding good_in some_holds
-    good_block =
-        let full : length (take 32 (drop at bytes)) ≡ 32 = length-take-le 32 (drop at bytes) (omega (arith, length-drop at bytes)) in
-        let check : holds ≡ check_holds (take 32 (drop at bytes)) = tested ∙ rw (block_width bytes at, full) in
-        rw check (rw (block_more bytes at more, drop-drop 32 at bytes) at so)
-
-    pub good_found : holds ≡ true → true ≡ good_in bytes
-    good_found e = rw e at good_block
-
-    pub good_passed : holds ≡ false → good_in (drop (at + 32) bytes) ≡ good_in bytes
-    good_passed e = rw e at good_block
 
 -- whole blocks first, then the rest
 pub some_append : (n m k : ℕ) (a b : List ℕ) → n ≡ m + k → length a ≡ 32 * m → some_holds n (a ++ b) ≡ (some_holds m a || some_holds k b)
@@ -97,6 +60,31 @@ some_append (suc n) (suc m) k a b e l =
 pub good_append : (a b : List ℕ) → length a % 32 ≡ 0 → good_in (a ++ b) ≡ (good_in a || good_in b)
 unfolding good_in
 good_append a b h = some_append (length (a ++ b) / 32) (length a / 32) (length b / 32) a b (omega (arith, length-append a b)) (omega arith)
+
+-- the test of a block, as the code makes it
+abbrev pub tested : List ℕ → Bool
+tested block = eqb (length block) 32 && check_holds block
+
+-- a block is looked at, and those after it
+good_more : (block rest : List ℕ) → length block ≡ 32 → good_in (block ++ rest) ≡ (tested block || good_in rest)
+unfolding good_in some_holds
+good_more block rest wide =
+    let one : length block / 32 ≡ 1 = omega arith in
+    let here : good_in block ≡ tested block = rw (one, take_all 32 block (omega arith), wide) (or-false (check_holds block)) in
+    rw (good_append block rest (omega arith), here)
+
+-- the search so far: what the bytes from a block on say, they all say
+module _ (block rest : List ℕ) (holds all : Bool) (wide : length block ≡ 32) (found : holds ≡ tested block) (so : good_in (block ++ rest) ≡ all) where
+  pub good_found : holds ≡ true → true ≡ all
+  good_found e = sym (ap (λ (b : Bool). b || good_in rest) (sym found ∙ e)) ∙ sym (good_more block rest wide) ∙ so
+
+  pub good_passed : holds ≡ false → good_in rest ≡ all
+  good_passed e = sym (ap (λ (b : Bool). b || good_in rest) (sym found ∙ e)) ∙ sym (good_more block rest wide) ∙ so
+
+-- none is left
+pub good_none : (rest : List ℕ) → length rest < 32 → good_in rest ≡ false
+unfolding good_in some_holds
+good_none rest few = let none : length rest / 32 ≡ 0 = omega arith in rw none
 
 -- it held before, or it holds in a chunk
 pub good_before : (before chunk : Bool) → before ≡ true → before ≡ (before || chunk)
@@ -147,7 +135,7 @@ roomless_few t bytes = omega (arith, roomless_blocks_few (length bytes / 32) t b
 
 -- nothing read yet
 pub reading_nothing : (t : Table) → t ≡ store_table nothing
-    → Reading (record { table = t; rest = 0; full = 0; refused = 0; size = 0; good = false; failed = false })
+    → Reading (record { table = t; rest = 0; full = 0; refused = 0; size = 0; good = false; failed = None })
 unfolding read_recording read_blocks left_over roomless roomless_blocks refusals refused_of good_in some_holds
 reading_nothing t e = record { bytes = []; each = λ i. omega arith; size = refl; table = e; rest = refl; full = refl; refused = refl; good = refl }
 
@@ -179,7 +167,7 @@ module _ (before : Received) (chunk : List ℕ) (read : Recorded)
       omega (arith, r.size, r.refused, now, refused_few (length r.bytes / 32) r.bytes, refused_few (length chunk / 32) chunk)
 
   -- whole blocks and then the chunk
-  pub reading_chunk : (good failed : Bool) → before.size % 32 ≡ 0 → ((i : ℕ) → get_or chunk i 0 < 256) → good ≡ (before.good || good_in chunk)
+  pub reading_chunk : (good : Bool) (failed : Option Error) → before.size % 32 ≡ 0 → ((i : ℕ) → get_or chunk i 0 < 256) → good ≡ (before.good || good_in chunk)
       → ReadsMore before chunk
       (record { table = read.table; rest = read.rest; full = before.full + read.full; refused = before.refused + read.refused; size = before.size + length chunk; good = good; failed = failed })
   unfolding ReadsMore recorded_as
@@ -203,12 +191,10 @@ module _ (before : Received) (chunk : List ℕ) (read : Recorded)
       )
 
 -- that the reading failed after these bytes changes nothing of them
-abbrev pub with_failed : Received → Bool → Received
-with_failed r failed = record { table = r.table; rest = r.rest; full = r.full; refused = r.refused; size = r.size; good = r.good; failed = failed }
-
-unfoldable pub reading_failed : (r : Received) (failed : Bool) → Reading r → Reading (with_failed r failed)
+unfoldable pub reading_failed : (r : Received) (failed : Option Error) → Reading r
+    → Reading (record { table = r.table; rest = r.rest; full = r.full; refused = r.refused; size = r.size; good = r.good; failed = failed })
 reading_failed r failed h = record { bytes = h.bytes; each = h.each; size = h.size; table = h.table; rest = h.rest; full = h.full; refused = h.refused; good = h.good }
 
 -- a larger bound
-pub within_more : (t : Turn) (m n : ℕ) → ReadOn t m → m ≤ n → ReadOn t n
-within_more t m n h l = record { read = h.read; even = h.even; within = omega (arith, h.within) }
+pub within_more : (r : Received) (more : Bool) (m n : ℕ) → ReadOn r more m → m ≤ n → ReadOn r more n
+within_more r more m n h l = record { read = h.read; even = h.even; within = omega (arith, h.within) }

@@ -6,7 +6,6 @@ use Rattle.rules.specs.Outcomes.{read_recording, left_over, refusals, roomless}
 use Rattle.table.specs.Stored.{store_table}
 use Rattle.sheet.specs.Loading.{Loads}
 use Rattle.input.specs.declared.Received.{Received}
-use Rattle.input.specs.declared.Turn.{Turn}
 use Rattle.input.specs.declared.Fetched.{Fetched}
 
 -- the check of some block holds, among the first n blocks
@@ -34,11 +33,11 @@ pub record Reading (r : Received) : Type 0 where
 unfoldable pub ReadsMore : Received → List ℕ → Received → Type 0
 ReadsMore before chunk r = (a : Reading before) → (b : Reading r) × (b.bytes ≡ a.bytes ++ chunk)
 
--- a reading with the input not yet at its end: it goes on at the start of a block
-pub record ReadOn (t : Turn) (most : ℕ) : Type 0 where
-  pub read : Reading t.received
-  pub even : t.more ≡ true → t.received.size % 32 ≡ 0
-  pub within : t.received.size ≤ most
+-- a reading, where `more` says that the input is not yet at its end: it goes on at the start of a block
+pub record ReadOn (r : Received) (more : Bool) (most : ℕ) : Type 0 where
+  pub read : Reading r
+  pub even : more ≡ true → r.size % 32 ≡ 0
+  pub within : r.size ≤ most
 
 -- as a sheet
 pub record Loading (r : Fetched) : Type 0 where

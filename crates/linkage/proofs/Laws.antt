@@ -1,16 +1,16 @@
--- What was written to the front of a buffer with outcome 0 is what was asked for, of what was read: a recording's bytes, a sheet's.
+-- What was written to the front of a buffer is what was asked for, of what was read: a recording's bytes, a sheet's.
 use Prim.Native.Nat.{ℕ}
-use mathlib.Core.Path.{◌≡◌, refl, ap, ◌∙◌}
+use mathlib.Core.Path.{◌≡◌, refl, ◌∙◌}
 use mathlib.Core.List.{List}
 use lib.ListN.{take}
 use Rattle.rules.specs.declared.Outcome.TheVariants.{Done}
 use Rattle.rules.specs.Collecting.{nothing}
-use Rattle.rules.specs.Outcomes.{number_of, read_recording}
+use Rattle.rules.specs.Outcomes.{read_recording}
 use Rattle.rules.proofs.TableRules.{nothing_meets}
 use Rattle.rules.proofs.LinkageLaws.{recording_keeps}
 use Rattle.layout.proofs.Laws.{load_meets}
 use Rattle.table.specs.declared.Table.{Table}
-use Rattle.out.specs.declared.Written.{Written}
+use Rattle.std.specs.Prelude.{Ok}
 use Rattle.out.specs.Answer.{Outputs}
 use Rattle.out.proofs.Answers.{output_bytes}
 use Rattle.sheet.specs.declared.Loaded.{Loaded}
@@ -40,13 +40,12 @@ pub fetched_held : (f : Fetched) → Loading f → f.loaded.outcome ≡ Done →
 fetched_held f a d = sheet_held a.bytes f.loaded a.loads d
 
 -- what is made of either
-pub held_made : (asked : Output) (t : Table) (rest : ℕ) (old : List ℕ) (w : Written) (new made : List ℕ) → Holding t rest
-    → Outputs (output_of asked rest) t old w new → w.outcome ≡ Done → made ≡ take w.size new → Made asked made
-unfolding number_of
-held_made asked t rest old w new made a h o e =
+pub held_made : (asked : Output) (t : Table) (rest : ℕ) (old : List ℕ) (n : ℕ) (new made : List ℕ) → Holding t rest
+    → Outputs (output_of asked rest) t old (Ok n) new → made ≡ take n new → Made asked made
+held_made asked t rest old n new made a h e =
     record {
       content = a.content;
       rest = rest;
       came = a.came;
-      whole = e ∙ output_bytes (output_of asked rest) t old w new h (ap number_of o) a.content a.meets a.stored;
+      whole = e ∙ output_bytes (output_of asked rest) t old n new h a.content a.meets a.stored;
     }

@@ -2,214 +2,101 @@
 // for each FIG, with its type and the length of its body; where the walk finds a wrong FIG it says so and stops. Bytes left over
 // at the end are counted in a last line. A block with a failing check is walked all the same.
 // The walk goes by the reader of crate reader.
-ghost use Rattle.std.specs.Prelude.{◌≡◌, ◌+◌, ◌<◌, ◌≤◌, length};
+ghost use Rattle.std.specs.Prelude.{◌+◌, ◌<◌, length};
 
-use crate::sink::write_whole;
 use figs::FigStep;
-use input::some_holds;
-use out::{front, put, put_bytes, put_decimal};
+use input::{TURNS, fill, some_holds, write_whole};
 use reader::FigReader;
+use std::fmt::{InlineText, Write as WriteText};
 use std::io::{Read, Write};
+use std::{fmt, io};
 
-// What a walk found so far: the type and the length of the body of each FIG, in order, how many FIGs, and whether it ended at a
-// wrong one; and how many steps may still be made.
-#[derive(Clone, Copy)]
-struct Walked {
-    kinds: [u8; 31],
-    sizes: [usize; 31],
-    count: usize,
-    wrong: bool,
-    left: usize,
-}
-
-// A walk before its first step. The steps are as many as the rules give a walk, and are never used up.
-fn begun() -> Walked {
-    Walked {
-        kinds: [0; 31],
-        sizes: [0; 31],
-        count: 0,
-        wrong: false,
-        left: 31,
-    }
-}
-
-// A walk after one more FIG. There are never more FIGs than steps; the test is there so that the place is in range.
-fn with_fig(walked: Walked, kind: u8, size: usize) -> Walked
-    requires { 0 < walked.left }
-    ensures { result.left < walked.left }
-{
-    let mut after = walked;
-    let i = walked.count;
-    if i < 31 {
-        after.kinds[i] = kind;
-        after.sizes[i] = size;
-        after.count = i + 1;
-    }
-    after.left = walked.left - 1;
-    after
-}
-
-// A walk that is over.
-fn ended(walked: Walked, wrong: bool) -> Walked
-    ensures { result.left ≡ 0 }
-{
-    let mut after = walked;
-    after.wrong = wrong;
-    after.left = 0;
-    after
-}
-
-// A walk after what a step found. No step gives a body that ends before its start; the test is there so that the difference is
-// in order.
-fn noted(walked: Walked, found: FigStep) -> Walked
-    requires { 0 < walked.left }
-    ensures { result.left < walked.left }
-{
-    match found {
-        FigStep::Fig {
-            kind,
-            start,
-            end,
-            next: _,
-        } => {
-            let size = if start <= end { end - start } else { 0 };
-            with_fig(walked, kind, size)
-        }
-        FigStep::End => ended(walked, false),
-        FigStep::Wrong => ended(walked, true),
-    }
-}
-
-// Walks a block by a reader, to the end or to a wrong FIG.
-fn walk(fib: &[u8]) -> Walked {
+// The lines of the FIGs that a walk of a block finds, to the end or to a wrong FIG. The rules give a walk 31 steps, which are never
+// used up. No step gives a body that ends before its start: the difference is in order.
+fn put_figs<T: WriteText>(text: &mut T, fib: &[u8]) -> fmt::Result {
     let mut reader = FigReader::over(fib);
-    let mut walked = begun();
-    while 0 < walked.left {
-        let found = reader.step();
-        walked = noted(walked, found);
+    for _ in 0..31 {
+        match reader.step() {
+            FigStep::Fig {
+                kind,
+                start,
+                end,
+                next: _,
+            } => writeln!(text, "type {} length {}", kind, end.saturating_sub(start))?,
+            FigStep::End => return Ok(()),
+            FigStep::Wrong => return writeln!(text, "wrong FIG"),
+        }
     }
-    walked
+    Ok(())
 }
 
-// The line of a FIG.
-fn put_fig(text: &mut [u8], at: usize, kind: u8, size: usize) -> usize {
-    let a = put_bytes(text, at, b"type ");
-    let b = put_decimal(text, a, kind as usize);
-    let c = put_bytes(text, b, b" length ");
-    let d = put_decimal(text, c, size);
-    put(text, d, 10)
+// The lines of a block.
+fn put_block<T: WriteText>(text: &mut T, number: usize, fib: &[u8]) -> fmt::Result {
+    let check = if crc::check_holds(fib) {
+        ""
+    } else {
+        " check fails"
+    };
+    writeln!(text, "block {number}{check}")?;
+    put_figs(text, fib)
 }
 
-// The lines of the FIGs that a walk found, from a place of the text on, and the place after them.
-fn put_figs(text: &mut [u8], at: usize, walked: Walked) -> usize {
-    let mut end = at;
-    let mut i: usize = 0;
-    while i < 31 && i < walked.count {
-        end = put_fig(text, end, walked.kinds[i], walked.sizes[i]);
-        i += 1;
-    }
-    if walked.wrong {
-        return put_bytes(text, end, b"wrong FIG\n");
-    }
-    end
-}
-
-// The end of a block's first line, which says where its check fails.
-fn put_check(text: &mut [u8], at: usize, holds: bool) -> usize {
-    if holds {
-        return put(text, at, 10);
-    }
-    put_bytes(text, at, b" check fails\n")
-}
-
-// The lines of a block, at the front of a buffer, and the place after them.
-fn put_block(text: &mut [u8], number: usize, fib: &[u8]) -> usize {
-    let a = put_bytes(text, 0, b"block ");
-    let b = put_decimal(text, a, number);
-    let c = put_check(text, b, crc::check_holds(fib));
-    put_figs(text, c, walk(fib))
+// The lines of a block to the output: at most 39 bytes and 17 a FIG, which find room.
+fn write_block<W: Write>(output: &mut W, number: usize, fib: &[u8]) -> io::Result<()> {
+    let mut text = InlineText::<640>::new();
+    let _ = put_block(&mut text, number, fib);
+    write_whole(output, text.as_str().as_bytes())
 }
 
 // The line of the bytes left over, if there are any, to the output.
-fn write_rest<W: Write>(output: &mut W, rest: usize) -> bool {
+fn write_rest<W: Write>(output: &mut W, rest: usize) -> io::Result<()> {
     if rest == 0 {
-        return true;
+        return Ok(());
     }
-    let mut text = [0u8; 32];
-    let a = put_bytes(&mut text, 0, b"rest ");
-    let b = put_decimal(&mut text, a, rest);
-    let c = put(&mut text, b, 10);
-    write_whole(output, front(&text, c))
+    let text = InlineText::<32>::of(format_args!("rest {rest}\n"));
+    write_whole(output, text.as_str().as_bytes())
 }
 
-// The lines of a block to the output: at most 39 bytes and 17 a FIG.
-fn write_block<W: Write>(output: &mut W, number: usize, fib: &[u8]) -> bool {
-    let mut text = [0u8; 640];
-    let n = put_block(&mut text, number, fib);
-    write_whole(output, front(&text, n))
-}
-
-// The lines of the whole blocks of a chunk, numbered from a number on, and of the bytes left over; whether all were written.
-fn write_chunk<W: Write>(output: &mut W, number: usize, chunk: &[u8]) -> bool
+// The lines of the whole blocks of a chunk, numbered from a number on, and of the bytes left over.
+fn write_chunk<W: Write>(output: &mut W, number: usize, chunk: &[u8]) -> io::Result<()>
     requires { number + length chunk.now < 18446744073709551616 }
 {
-    let mut at: usize = 0;
-    while 32 <= chunk.len() - at {
-        let end = at + 32;
-        if !write_block(output, number + at / 32, &chunk[at..end]) {
-            return false;
-        }
-        at = end;
+    let blocks = chunk.chunks_exact(32);
+    let rest = blocks.remainder().len();
+    for (i, fib) in blocks.enumerate() {
+        write_block(output, number + i, fib)?;
     }
-    write_rest(output, chunk.len() - at)
+    write_rest(output, rest)
 }
 
-// What came of listing: how many bytes were read, whether the check of some block held, whether the last read failed, whether
-// all was written, and whether the input may go on.
+// What came of listing: how many bytes were read, whether the check of some block held, and why the last read failed, if it did.
 #[derive(Clone, Copy)]
 pub(crate) struct Listed {
     pub size: usize,
     pub good: bool,
-    pub failed: bool,
-    pub written: bool,
-    pub more: bool,
-}
-
-// The next chunk, listed.
-fn list_chunk<R: Read, W: Write>(input: &mut R, output: &mut W, size: usize, good: bool) -> Listed
-    requires { size + 32768 ≤ 9223372036854775808 }
-    ensures { result.size ≤ size + 32768 }
-{
-    let mut chunk = [0u8; 32768];
-    let filled = input::fill(input, &mut chunk);
-    let n = filled.size;
-    let written = write_chunk(output, size / 32, &chunk[..n]);
-    Listed {
-        size: size + n,
-        good: good || some_holds(&chunk[..n]),
-        failed: filled.failed,
-        written,
-        more: written && n == 32768,
-    }
+    pub failed: Option<io::Error>,
 }
 
 // Lists the FIGs of an input to its end, or as far as it can be read and the text be written. An input of more than 2^48 chunks
 // counts as one that failed.
-pub(crate) fn list_figs<R: Read, W: Write>(input: &mut R, output: &mut W) -> Listed {
+pub(crate) fn list_figs<R: Read, W: Write>(input: &mut R, output: &mut W) -> io::Result<Listed> {
+    let mut chunk = [0u8; 32768];
     let mut listed = Listed {
         size: 0,
         good: false,
-        failed: false,
-        written: true,
-        more: true,
+        failed: None,
     };
-    let mut turns: usize = 281474976710656;
-    while listed.more && 0 < turns {
-        listed = list_chunk(input, output, listed.size, listed.good);
-        turns -= 1;
+    for turn in 0..TURNS {
+        let filled = fill(input, &mut chunk);
+        let bytes = &chunk[..filled.size];
+        write_chunk(output, listed.size / 32, bytes)?;
+        listed.size += filled.size;
+        listed.good = listed.good || some_holds(bytes);
+        listed.failed = filled.failed;
+        if filled.size < chunk.len() {
+            return Ok(listed);
+        }
     }
-    if listed.more {
-        listed.failed = true;
-    }
-    listed
+    listed.failed = Some(io::Error::from_raw_os_error(0));
+    Ok(listed)
 }

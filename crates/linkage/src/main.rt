@@ -9,22 +9,19 @@ mod figs_text;
 mod path;
 mod say;
 mod session;
-mod sink;
 mod source;
 mod target;
 mod words;
 mod work;
 
-use out::front;
 use outputs::Output;
-use say::{say, say_failed};
+use say::{Told, say, write_help};
 use session::Session;
-use sink::Sink;
-use source::Source;
-use std::rt::Env;
-use target::Target;
-use words::{Action, Options};
-use work::{use_check, use_figs, use_recording, use_sheet};
+use source::{Source, name_at, open_source};
+use std::fmt::InlineText;
+use target::{Target, aim};
+use words::{Action, Options, action_of, read_options};
+use work::{help, use_check, use_figs, use_recording, use_sheet};
 
 // ---- what goes with what
 
@@ -70,67 +67,47 @@ fn carry_out(
     action: Action,
     options: Options,
     source: &mut Source,
-    name: &[u8],
     target: Target,
-    path: &[u8],
-) -> bool {
+) -> Result<(), Told> {
     let asked = asked_for(action, options);
     match action {
-        Action::Figs => use_figs(session, source, name),
-        Action::Check => use_check(session, source, name),
-        Action::Show => use_sheet(session, asked, source, name, target, path),
-        Action::Air => use_sheet(session, asked, source, name, target, path),
-        _ => use_recording(session, asked, source, name, target, path),
+        Action::Figs => use_figs(session, source),
+        Action::Check => use_check(session, source),
+        Action::Show | Action::Air => use_sheet(session, asked, source, target),
+        _ => use_recording(session, asked, source, target),
     }
 }
 
 // Whether an action reads a recording.
 fn reads_recording(action: Action) -> bool {
-    match action {
-        Action::List => true,
-        Action::Sheet => true,
-        Action::Figs => true,
-        Action::Check => true,
-        Action::Totals => true,
-        _ => false,
-    }
+    matches!(
+        action,
+        Action::List | Action::Sheet | Action::Figs | Action::Check | Action::Totals
+    )
 }
 
 // Whether an action wants a file to write into.
 fn wants_output(action: Action) -> bool {
-    match action {
-        Action::Sheet => true,
-        Action::Air => true,
-        _ => false,
-    }
+    matches!(action, Action::Sheet | Action::Air)
 }
 
 // Whether an action lists sets.
 fn lists_sets(action: Action) -> bool {
-    match action {
-        Action::List => true,
-        Action::Show => true,
-        _ => false,
-    }
-}
-
-// Says that a file is too short for a recording.
-fn say_short(session: &Session, name: &[u8], size: usize) {
-    let mut words = [0u8; 64];
-    let a = out::put_bytes(&mut words, 0, b" has ");
-    let b = out::put_decimal(&mut words, a, size);
-    let c = out::put_bytes(&mut words, b, b" bytes and a block has 32");
-    say(session, b"not a recording: ", name, front(&words, c));
+    matches!(action, Action::List | Action::Show)
 }
 
 // A named file that is shorter than a block is no recording.
-fn is_long_enough(session: &Session, action: Action, source: &Source, name: &[u8]) -> bool {
-    let facts = source.facts;
-    if reads_recording(action) && source.named && facts.is_regular() && facts.size < 32 {
-        say_short(session, name, facts.size);
-        return false;
+fn see_long_enough(session: &Session, action: Action, source: &Source) -> Result<(), Told> {
+    match source.named_size() {
+        Some(size) if size < 32 && reads_recording(action) => {
+            let why = InlineText::<64>::of(format_args!(" has {size} bytes and a block has 32"));
+            Err(say(
+                session,
+                &[b"not a recording: ", source.name, why.as_str().as_bytes()],
+            ))
+        }
+        _ => Ok(()),
     }
-    true
 }
 
 // Finds out where the output goes, and carries the action out on an open input.
@@ -139,147 +116,90 @@ fn perform_on(
     action: Action,
     options: Options,
     source: &mut Source,
-    name: &[u8],
-) -> bool {
+) -> Result<(), Told> {
     let mut output = [0u8; 4096];
-    let to = source::put_name(session, options.output, b"standard output", &mut output);
     let mut path = [0u8; 4096];
-    let aimed = target::aim(
-        session,
-        front(&output, to.size),
-        to.standard,
-        options.force,
-        &mut path,
-    );
-    let Some(target) = aimed else {
-        return false;
-    };
-    let facts = source.facts;
-    let old = target.old;
-    if facts.is_same_file(old) {
-        say(session, b"", name, b" is both input and output");
-        return false;
+    let to = name_at(session, options.output, &mut output);
+    let target = aim(session, to, options.force, &mut path)?;
+    if facts::is_same_file(&source.facts, &target.old) {
+        return Err(say(session, &[source.name, b" is both input and output"]));
     }
-    carry_out(session, action, options, source, name, target, &path)
+    carry_out(session, action, options, source, target)
 }
 
 // Opens the input, and carries the action out.
-fn perform(session: &Session, action: Action, options: Options) -> bool {
+fn perform(session: &Session, action: Action, options: Options) -> Result<(), Told> {
     let mut input = [0u8; 4096];
-    let from = source::put_name(session, options.input, b"standard input", &mut input);
-    let name = front(&input, from.size);
-    let opened = source::open_source(session, name, from.standard);
-    let Some(source) = opened else {
-        return false;
-    };
-    let mut source = source;
-    if !is_long_enough(session, action, &source, name) {
-        return false;
-    }
-    perform_on(session, action, options, &mut source, name)
+    let from = name_at(session, options.input, &mut input);
+    let mut source = open_source(session, from)?;
+    see_long_enough(session, action, &source)?;
+    perform_on(session, action, options, &mut source)
 }
 
-// Whether an action lists the sets of a recording.
-fn lists_recording(action: Action) -> bool {
-    match action {
-        Action::List => true,
-        _ => false,
-    }
-}
-
-// Whether the forms that are asked for go with the action; it says what does not.
-fn forms_fit(session: &Session, action: Action, options: Options) -> bool {
+// Sees that the forms that are asked for go with the action.
+fn see_forms(session: &Session, action: Action, options: Options) -> Result<(), Told> {
     if !lists_sets(action) && options.table {
-        say(session, b"--table goes with list and show", b"", b"");
-        return false;
+        return Err(say(session, &[b"--table goes with list and show"]));
     }
     if !lists_sets(action) && options.csv {
-        say(session, b"--csv goes with list and show", b"", b"");
-        return false;
+        return Err(say(session, &[b"--csv goes with list and show"]));
     }
-    if !lists_recording(action) && options.confirmed {
-        say(session, b"--confirmed goes with list", b"", b"");
-        return false;
+    if action != Action::List && options.confirmed {
+        return Err(say(session, &[b"--confirmed goes with list"]));
     }
-    true
+    Ok(())
 }
 
-// Whether the options go with the action; it says what does not.
-fn go_together(session: &Session, action: Action, options: Options, word: &[u8]) -> bool {
-    if wants_output(action) && options.output == 0 {
-        say(session, b"", word, b" wants -o FILE");
-        return false;
+// Sees that the options go with the action, which a word named.
+fn see_together(
+    session: &Session,
+    action: Action,
+    options: Options,
+    word: &[u8],
+) -> Result<(), Told> {
+    if wants_output(action) {
+        if options.output.is_none() {
+            return Err(say(session, &[word, b" wants -o FILE"]));
+        }
+    } else if options.output.is_some() {
+        return Err(say(session, &[b"-o goes with sheet and air"]));
+    } else if options.force {
+        return Err(say(session, &[b"-f goes with sheet and air"]));
     }
-    if !wants_output(action) && options.output != 0 {
-        say(session, b"-o goes with sheet and air", b"", b"");
-        return false;
-    }
-    if !wants_output(action) && options.force {
-        say(session, b"-f goes with sheet and air", b"", b"");
-        return false;
-    }
-    forms_fit(session, action, options)
+    see_forms(session, action, options)
 }
 
-// The text of `help`, to standard output.
-fn help(session: &Session) -> bool {
-    let mut output = Sink::over(session.rt.stdout());
-    let written = if say::write_help(&mut output) {
-        target::close_output(session)
-    } else {
-        Err(output.error())
+// Does what an action, which a word named, and the words after it ask for.
+fn obey(session: &Session, action: Action, word: &[u8]) -> Result<(), Told> {
+    let options = read_options(session);
+    if action == Action::Help || options.help {
+        return help(session);
+    }
+    options.see_right(session)?;
+    see_together(session, action, options, word)?;
+    perform(session, action, options)
+}
+
+// Does what the words ask for.
+fn run(session: &Session) -> Result<(), Told> {
+    if session.word_count() < 2 {
+        let _ = write_help(&mut session.rt.stderr());
+        return Err(Told);
+    }
+    let mut room = [0u8; 4096];
+    let word = session.word(1, &mut room);
+    let Some(action) = action_of(word) else {
+        say(session, &[b"no such command: ", word]);
+        let _ = write_help(&mut session.rt.stderr());
+        return Err(Told);
     };
-    match written {
-        Ok(()) => true,
-        Err(e) => {
-            say_failed(session, b"cannot write to standard output", b"", e);
-            false
-        }
-    }
-}
-
-// Does what an action and the words after it ask for.
-fn obey(session: &Session, action: Action, word: &[u8]) -> bool {
-    let options = words::read_options(session);
-    match action {
-        Action::Help => help(session),
-        Action::Unknown => {
-            say(session, b"no such command: ", word, b"");
-            say::write_help(&mut session.rt.stderr());
-            false
-        }
-        _ => {
-            if options.help {
-                return help(session);
-            }
-            if !options.are_right(session) {
-                return false;
-            }
-            if !go_together(session, action, options, word) {
-                return false;
-            }
-            perform(session, action, options)
-        }
-    }
-}
-
-// Does what the words ask for; whether all of it was done.
-fn run(session: &Session) -> bool {
-    if words::arg_count(session) < 2 {
-        say::write_help(&mut session.rt.stderr());
-        return false;
-    }
-    let mut word = [0u8; 4096];
-    let n = session.rt.arg(1, &mut word).unwrap_or(0);
-    let name = &word[..n];
-    obey(session, words::action_of(name), name)
+    obey(session, action, word)
 }
 
 fn main(rt: HostRuntime) {
     let session = Session::begin(rt);
-    if run(&session) {
-        session.tell(b"done");
-    } else {
-        session.tell(b"no");
+    match run(&session) {
+        Ok(()) => session.tell(b"done"),
+        Err(Told) => session.tell(b"no"),
     }
 }

@@ -1,6 +1,6 @@
 // Paths: the folder in front of a name, and the file at the end of its links.
 use crate::session::Session;
-use out::{front, put_bytes};
+use out::{Page, front};
 use std::str::from_utf8;
 use std::{fs, io};
 
@@ -12,80 +12,64 @@ pub(crate) fn text_of(path: &[u8]) -> io::Result<&str> {
     from_utf8(path).map_err(|_| io::Error::from_raw_os_error(BAD_TEXT))
 }
 
-// How many bytes of a path are its folder, with the slash after it: none where it has no slash.
-pub(crate) fn folder_size(path: &[u8]) -> usize {
-    let mut n = path.len();
-    while 0 < n {
-        if path[n - 1] == b'/' {
-            return n;
-        }
-        n -= 1;
+// The folder in front of a name, with the slash after it: nothing where the path has no slash.
+pub(crate) fn folder_of(path: &[u8]) -> &[u8] {
+    match path.iter().rposition(|byte| *byte == b'/') {
+        Some(n) => &path[..=n],
+        None => &[],
     }
-    0
 }
 
-// The folder of a path, `.` where it names none, to the front of a buffer, and its length.
-pub(crate) fn put_folder(path: &[u8], folder: &mut [u8]) -> usize {
-    let n = folder_size(path);
-    if n == 0 {
-        return put_bytes(folder, 0, b".");
-    }
-    put_bytes(folder, 0, front(path, n))
+// Stores bytes from a place of a buffer on; the place after them.
+fn put_at(room: &mut [u8], at: usize, bytes: &[u8]) -> usize {
+    let mut page = Page { buffer: room, at };
+    page.put_bytes(bytes);
+    page.size()
 }
 
-// How many bytes of a path stay in front of where its link leads: none where the link begins at the root.
-fn kept_before(link: &[u8; 4096], path: &[u8]) -> usize {
-    if link[0] == b'/' {
-        return 0;
-    }
-    folder_size(path)
-}
-
-// A path at the front of a buffer by its length, and whether it may be a link: no more where the end of its links is reached.
+// What is found at a path: no link, a link, in whose place now stands a path of so many bytes where it leads, or one that leads to
+// a path that is longer than a path can be.
 #[derive(Clone, Copy)]
-struct Followed {
-    size: usize,
-    more: bool,
+enum Followed {
+    NoLink,
+    To(usize),
+    TooFar,
 }
 
-// What the link at a path holds, to the front of a buffer, and its length: 0 where there is no link.
-fn read_link(session: &Session, path: &[u8], link: &mut [u8]) -> io::Result<usize> {
-    match fs::read_link(&session.rt, text_of(path)?) {
-        Ok(target) => Ok(put_bytes(link, 0, target.as_path().as_os_str().as_bytes())),
-        Err(e) if e.raw_os_error().is_some() => Ok(0),
-        Err(e) => Err(e),
+// Where the link at a path leads, in the place of the path, which has so many bytes.
+fn follow_once(session: &Session, room: &mut [u8], size: usize) -> io::Result<Followed> {
+    let path = front(room, size);
+    let target = match fs::read_link(&session.rt, text_of(path)?) {
+        Ok(target) => target,
+        Err(e) if e.raw_os_error().is_some() => return Ok(Followed::NoLink),
+        Err(e) => return Err(e),
+    };
+    let link = target.as_path().as_os_str().as_bytes();
+    let kept = match link {
+        [] => return Ok(Followed::NoLink),
+        [b'/', ..] => 0,
+        _ => folder_of(path).len(),
+    };
+    if 4095 < kept.saturating_add(link.len()) {
+        return Ok(Followed::TooFar);
     }
+    Ok(Followed::To(put_at(room, kept, link)))
 }
 
-// Where the link at a path leads, in the place of the path. Length 0 where that is longer than a path can be.
-fn follow_once(session: &Session, path: &mut [u8], size: usize) -> io::Result<Followed> {
-    let mut link = [0u8; 4096];
-    let n = read_link(session, front(path, size), &mut link)?;
-    if n == 0 {
-        return Ok(Followed { size, more: false });
-    }
-    let folder = kept_before(&link, front(path, size));
-    if 4095 <= folder || 4095 - folder < n {
-        return Ok(Followed {
-            size: 0,
-            more: false,
-        });
-    }
-    let size = put_bytes(path, folder, front(&link, n));
-    Ok(Followed { size, more: true })
-}
-
-// Follows the links at a path, in the place of the path: its length then. At most forty, as the system does; 0 where they are more.
-// It fails where a link leads to what is no text, or no memory is left.
-pub(crate) fn follow(session: &Session, path: &mut [u8], size: usize) -> io::Result<usize> {
-    let mut now = Followed { size, more: true };
-    let mut turns: usize = 0;
-    while now.more {
-        if 40 <= turns {
-            return Ok(0);
+// Follows the links at a path, in a buffer: the path at their end. At most forty, as the system does; none where they are more, or lead
+// too far. It fails where a link leads to what is no text, or no memory is left.
+pub(crate) fn follow<'a>(
+    session: &Session,
+    path: &[u8],
+    room: &'a mut [u8],
+) -> io::Result<Option<&'a [u8]>> {
+    let mut size = put_at(room, 0, path);
+    for _ in 0..40 {
+        match follow_once(session, room, size)? {
+            Followed::NoLink => return Ok(Some(front(room, size))),
+            Followed::To(there) => size = there,
+            Followed::TooFar => return Ok(None),
         }
-        now = follow_once(session, path, now.size)?;
-        turns += 1;
     }
-    Ok(now.size)
+    Ok(None)
 }

@@ -1,66 +1,53 @@
 // What the program says to people: lines on standard error, each after the program's name, and the text of `help`.
 use crate::session::Session;
-use crate::sink::write_whole;
-use out::{front, put, put_bytes, put_decimal};
+use input::write_whole;
+use out::{Page, front};
 use std::fmt::InlineText;
 use std::io;
 use std::io::Write;
 
-// The start of a line: the program's name, words, and a name. A line has room for the longest name and a sentence.
-fn begin(line: &mut [u8], words: &[u8], name: &[u8]) -> usize {
-    let a = put_bytes(line, 0, b"linkage: ");
-    let b = put_bytes(line, a, words);
-    put_bytes(line, b, name)
-}
+// What an action that is not done answers with: it has been said what is wrong.
+#[derive(Clone, Copy)]
+pub(crate) struct Told;
 
-// A line of words, a name and words.
-pub(crate) fn say(session: &Session, words: &[u8], name: &[u8], after: &[u8]) {
-    let mut line = [0u8; 4608];
-    let a = begin(&mut line, words, name);
-    let b = put_bytes(&mut line, a, after);
-    let c = put(&mut line, b, 10);
-    write_whole(&mut session.rt.stderr(), front(&line, c));
+// Says a line: these parts, one behind another. It has room for the longest name and a sentence.
+pub(crate) fn say(session: &Session, parts: &[&[u8]]) -> Told {
+    let mut line = [0u8; 4864];
+    let mut page = Page::over(&mut line);
+    page.put_bytes(b"linkage: ");
+    for part in parts {
+        page.put_bytes(part);
+    }
+    page.put(b'\n');
+    let size = page.size();
+    let _ = write_whole(&mut session.rt.stderr(), front(&line, size));
+    Told
 }
 
 // A line of words, a number and words.
-pub(crate) fn say_number(session: &Session, words: &[u8], number: usize, after: &[u8]) {
-    let mut digits = [0u8; 20];
-    let n = put_decimal(&mut digits, 0, number);
-    say(session, words, front(&digits, n), after);
+pub(crate) fn say_number(session: &Session, words: &[u8], number: usize, after: &[u8]) -> Told {
+    let digits = InlineText::<20>::of(number);
+    say(session, &[words, digits.as_str().as_bytes(), after])
 }
 
-// How many of so many bytes of an error's text are the system's own: the library puts its number behind them.
-fn system_size(error: io::Error, size: usize) -> usize {
-    match error.raw_os_error() {
-        Some(code) => {
-            let mut digits = [0u8; 20];
-            let n = put_decimal(&mut digits, 0, code.unsigned_abs() as usize);
-            size.saturating_sub(n).saturating_sub(12)
-        }
-        None => size,
+// The system's own words for an error: what stands before the number that the library puts behind them.
+// Kept: the other programs have these lines too; one of them for all would be a promise of a library.
+fn own_words(text: &str) -> &str {
+    match text.split_once(" (os error ") {
+        Some((words, _)) => words,
+        None => text,
     }
 }
 
-// What the system says of an error, from a place of a line on, and the place after it.
-fn put_error(line: &mut [u8], at: usize, error: io::Error) -> usize {
-    let text = InlineText::<256>::of(error);
-    let bytes = text.as_str().as_bytes();
-    let n = system_size(error, bytes.len());
-    put_bytes(line, at, front(bytes, n))
-}
-
 // A line of words, a name and what the system says of a call that failed.
-pub(crate) fn say_failed(session: &Session, words: &[u8], name: &[u8], error: io::Error) {
-    let mut line = [0u8; 4864];
-    let a = begin(&mut line, words, name);
-    let b = put_bytes(&mut line, a, b": ");
-    let c = put_error(&mut line, b, error);
-    let d = put(&mut line, c, 10);
-    write_whole(&mut session.rt.stderr(), front(&line, d));
+pub(crate) fn say_failed(session: &Session, words: &[u8], name: &[u8], error: io::Error) -> Told {
+    let text = InlineText::<256>::of(error);
+    let said = own_words(text.as_str()).as_bytes();
+    say(session, &[words, name, b": ", said])
 }
 
-// The text of `help`, to a writer; whether all of it was written.
-pub(crate) fn write_help<W: Write>(output: &mut W) -> bool {
+// The text of `help`, to a writer.
+pub(crate) fn write_help<W: Write>(output: &mut W) -> io::Result<()> {
     write_whole(
         output,
         b"\

@@ -2,183 +2,164 @@
 // one is written beside it. A device or a pipe is written to as it is.
 ghost use Rattle.linkage.specs.Made.{Made};
 
-use crate::facts::{Facts, blank, facts_of};
-use crate::path::{folder_size, follow, put_folder, text_of};
-use crate::say::{say, say_failed};
+use crate::facts::regular_size;
+use crate::path::{folder_of, follow, text_of};
+use crate::say::{Told, say, say_failed};
 use crate::session::Session;
-use crate::sink::{Sink, write_whole};
-use out::front;
+use crate::source::Name;
+use input::write_whole;
+use out::{Page, front};
 use outputs::Output;
-use std::fs::{File, OpenOptions, Permissions};
-use std::io::{ErrorKind, Write};
+use std::fmt::InlineText;
+use std::fs::{File, Metadata, OpenOptions, Permissions};
+use std::io::ErrorKind;
 use std::os::fd::AsFd;
-use std::os::unix::fs::{PermissionsExt, fchown};
+use std::os::unix::fs::{MetadataExt, PermissionsExt, fchown};
 use std::rt::Stdout;
 use std::{fs, io, process};
 
-// Where the bytes go: to an open file, or into a file of its own.
+// Where the bytes go: to an open file, or into a file of its own. `force` says that a file which comes to be there in the meantime may
+// go.
 #[derive(Drop)]
 enum Place {
     Standard(Stdout),
     Open(File),
-    Beside,
+    Beside { force: bool },
 }
 
-// Where the output goes, in place of an old file where `old` is known. Its name is left in a buffer, `size` bytes. `force` says that
-// a file which comes to be there in the meantime may go.
+// Where the output goes, what that is called, and what is known of what is there already.
 #[derive(Drop)]
-pub(crate) struct Target {
+pub(crate) struct Target<'a> {
     place: Place,
-    pub old: Facts,
-    pub force: bool,
-    pub size: usize,
-}
-
-// Nowhere: nothing can be written there, which has been said then.
-fn nowhere() -> Option<Target> {
-    None
+    path: &'a [u8],
+    pub old: Option<Metadata>,
 }
 
 // The name by which the system tells of standard output.
 const STANDARD_OUTPUT: &str = "/proc/self/fd/1";
 
 // What is known of standard output.
-fn output_facts(session: &Session) -> Facts {
-    facts_of(fs::metadata(&session.rt, STANDARD_OUTPUT))
+fn output_facts(session: &Session) -> Option<Metadata> {
+    fs::metadata(&session.rt, STANDARD_OUTPUT).ok()
 }
 
 // Standard output.
-fn standard(session: &Session, name: &[u8], path: &mut [u8]) -> Option<Target> {
-    Some(Target {
+fn standard<'a>(session: &Session) -> Target<'a> {
+    Target {
         place: Place::Standard(session.rt.stdout()),
+        path: b"standard output",
         old: output_facts(session),
-        force: true,
-        size: out::put_bytes(path, 0, name),
-    })
-}
-
-// An open file.
-fn directly(name: &[u8], file: File, old: Facts, path: &mut [u8]) -> Option<Target> {
-    Some(Target {
-        place: Place::Open(file),
-        old,
-        force: true,
-        size: out::put_bytes(path, 0, name),
-    })
+    }
 }
 
 // Whether an error says that no file can be made in a folder, and not that it could not be made just now.
 fn refuses(error: io::Error) -> bool {
-    match error.kind() {
-        ErrorKind::PermissionDenied => true,
-        ErrorKind::ReadOnlyFilesystem => true,
-        ErrorKind::NotADirectory => true,
-        ErrorKind::FilesystemLoop => true,
-        _ => false,
+    matches!(
+        error.kind(),
+        ErrorKind::PermissionDenied
+            | ErrorKind::ReadOnlyFilesystem
+            | ErrorKind::NotADirectory
+            | ErrorKind::FilesystemLoop
+    )
+}
+
+// The folder that a path is in, by a name.
+fn named_folder(path: &[u8]) -> &[u8] {
+    match folder_of(path) {
+        [] => b".",
+        folder => folder,
     }
 }
 
-// What a try to make a file in a folder shows: that files can be made there, that the name was taken, or that none can be made,
-// which has been said then.
-#[derive(Clone, Copy)]
-enum Tried {
-    Writable,
-    Taken,
-    Refused,
-}
-
-// Tries to make the file of a number beside a path, and removes it at once. The launcher hears of it first.
-fn try_folder(session: &Session, folder: &[u8], path: &[u8], k: usize) -> Tried {
-    let mut part = [0u8; 4096];
-    let size = put_part(session, path, k, &mut part);
-    session.tell(front(&part, size));
-    match create(session, front(&part, size)) {
+// Tries to make the file of a number beside a path, and removes it at once. The launcher hears of it first. Whether that shows that
+// files can be made there, as it does not where the name was taken.
+fn try_folder(session: &Session, path: &[u8], k: usize) -> Result<bool, Told> {
+    let mut room = [0u8; 4096];
+    let part = part_of(session, path, k, &mut room);
+    session.tell(part);
+    match create(session, part) {
         Ok(_) => {
-            unlink(session, front(&part, size));
-            Tried::Writable
+            unlink(session, part);
+            Ok(true)
         }
-        Err(e) if e.kind() == ErrorKind::AlreadyExists => Tried::Taken,
-        Err(e) if e.kind() == ErrorKind::NotFound => {
-            say(session, b"no folder to write into: ", folder, b"");
-            Tried::Refused
-        }
-        Err(e) if refuses(e) => {
-            say_failed(session, b"cannot write into ", folder, e);
-            Tried::Refused
-        }
-        Err(_) => Tried::Writable,
+        Err(e) if e.kind() == ErrorKind::AlreadyExists => Ok(false),
+        Err(e) if e.kind() == ErrorKind::NotFound => Err(say(
+            session,
+            &[b"no folder to write into: ", named_folder(path)],
+        )),
+        Err(e) if refuses(e) => Err(say_failed(
+            session,
+            b"cannot write into ",
+            named_folder(path),
+            e,
+        )),
+        Err(_) => Ok(true),
     }
 }
 
-// Whether files can be made in the folder of a path, which a file shows that is made and removed at once, under the first name that is
-// free; it says why not.
-fn is_writable(session: &Session, folder: &[u8], path: &[u8]) -> bool {
+// Sees that files can be made in the folder of a path, which a file shows that is made and removed at once, under the first name that is
+// free.
+fn see_writable(session: &Session, path: &[u8]) -> Result<(), Told> {
     for k in 0..100 {
-        match try_folder(session, folder, path, k) {
-            Tried::Writable => return true,
-            Tried::Taken => {}
-            Tried::Refused => return false,
+        if try_folder(session, path, k)? {
+            return Ok(());
         }
     }
-    true
+    Ok(())
 }
 
-// A file of its own at the end of all links, whose folder can be written to. The path is left in a buffer.
-fn beside(
+// A file of its own at the end of all links, whose folder can be written to. Its path stands in a buffer.
+fn beside<'a>(
     session: &Session,
     name: &[u8],
-    old: Facts,
+    old: Option<Metadata>,
     force: bool,
-    path: &mut [u8],
-) -> Option<Target> {
-    let named = out::put_bytes(path, 0, name);
-    let size = match follow(session, path, named) {
-        Ok(size) => size,
-        Err(e) => {
-            say_failed(session, b"cannot write ", name, e);
-            return nowhere();
+    room: &'a mut [u8],
+) -> Result<Target<'a>, Told> {
+    let path = match follow(session, name, room) {
+        Ok(Some(path)) => path,
+        Ok(None) => {
+            return Err(say(
+                session,
+                &[b"cannot write ", name, b": its links lead too far"],
+            ));
         }
+        Err(e) => return Err(say_failed(session, b"cannot write ", name, e)),
     };
-    if size == 0 {
-        say(session, b"cannot write ", name, b": its links lead too far");
-        return nowhere();
-    }
-    let mut folder = [0u8; 4096];
-    let n = put_folder(front(path, size), &mut folder);
-    if !is_writable(session, front(&folder, n), front(path, size)) {
-        return nowhere();
-    }
-    Some(Target {
-        place: Place::Beside,
+    see_writable(session, path)?;
+    Ok(Target {
+        place: Place::Beside { force },
+        path,
         old,
-        force,
-        size,
     })
 }
 
 // Says that a file is there, which was not to be overwritten.
-fn say_there(session: &Session, name: &[u8]) {
-    say(session, b"", name, b" is there already: -f overwrites it");
+fn say_there(session: &Session, name: &[u8]) -> Told {
+    say(session, &[name, b" is there already: -f overwrites it"])
 }
 
 // What is there already, open for writing: a regular file is replaced where that is allowed, anything else written to.
-fn onto(
+fn onto<'a>(
     session: &Session,
-    name: &[u8],
+    name: &'a [u8],
     file: File,
     force: bool,
-    path: &mut [u8],
-) -> Option<Target> {
-    let old = facts_of(file.metadata());
-    if !old.is_regular() {
-        return directly(name, file, old, path);
+    room: &'a mut [u8],
+) -> Result<Target<'a>, Told> {
+    let old = file.metadata().ok();
+    if regular_size(&old).is_none() {
+        return Ok(Target {
+            place: Place::Open(file),
+            path: name,
+            old,
+        });
     }
     drop(file);
     if !force {
-        say_there(session, name);
-        return nowhere();
+        return Err(say_there(session, name));
     }
-    beside(session, name, old, force, path)
+    beside(session, name, old, force, room)
 }
 
 // Opens a file that is there, to write at its end.
@@ -188,63 +169,40 @@ fn open_append(session: &Session, name: &[u8]) -> io::Result<File> {
         .open(&session.rt, text_of(name)?)
 }
 
-// Where an output of this name goes.
-pub(crate) fn aim(
+// Where an output of this name goes: into a file of its own where there is none.
+pub(crate) fn aim<'a>(
     session: &Session,
-    name: &[u8],
-    is_standard: bool,
+    name: Name<'a>,
     force: bool,
-    path: &mut [u8],
-) -> Option<Target> {
-    if is_standard {
-        return standard(session, name, path);
-    }
-    if name.len() == 0 {
-        say(session, b"-o wants a file's name", b"", b"");
-        return nowhere();
+    room: &'a mut [u8],
+) -> Result<Target<'a>, Told> {
+    let Name::File(name) = name else {
+        return Ok(standard(session));
+    };
+    if name.is_empty() {
+        return Err(say(session, &[b"-o wants a file's name"]));
     }
     match open_append(session, name) {
-        Ok(file) => onto(session, name, file, force, path),
-        Err(e) => unopened(session, name, e, force, path),
-    }
-}
-
-// Where an output goes whose name cannot be opened: into a file of its own where there is none.
-fn unopened(
-    session: &Session,
-    name: &[u8],
-    error: io::Error,
-    force: bool,
-    path: &mut [u8],
-) -> Option<Target> {
-    match error.kind() {
-        ErrorKind::NotFound => beside(session, name, blank(), force, path),
-        ErrorKind::IsADirectory => {
-            say(session, b"a folder, not a file: ", name, b"");
-            nowhere()
+        Ok(file) => onto(session, name, file, force, room),
+        Err(e) if e.kind() == ErrorKind::NotFound => beside(session, name, None, force, room),
+        Err(e) if e.kind() == ErrorKind::IsADirectory => {
+            Err(say(session, &[b"a folder, not a file: ", name]))
         }
-        _ => {
-            say_failed(session, b"cannot write ", name, error);
-            nowhere()
-        }
+        Err(e) => Err(say_failed(session, b"cannot write ", name, e)),
     }
 }
 
 // ---- writing
 
-// The number of a process.
-fn process_number(number: u32) -> usize {
-    number as usize
-}
-
-// The path of a file that is filled beside another, numbered so that it is new, and its length.
-fn put_part(session: &Session, path: &[u8], k: usize, part: &mut [u8]) -> usize {
-    let a = out::put_bytes(part, 0, front(path, folder_size(path)));
-    let b = out::put_bytes(part, a, b".linkage-");
-    let number = process::id(session.rt.process());
-    let c = out::put_decimal(part, b, process_number(number));
-    let d = out::put(part, c, b'-');
-    out::put_decimal(part, d, k)
+// The path of a file that is filled beside another, numbered so that it is new, in a buffer.
+fn part_of<'a>(session: &Session, path: &[u8], k: usize, room: &'a mut [u8]) -> &'a [u8] {
+    let process = process::id(session.rt.process());
+    let name = InlineText::<64>::of(format_args!(".linkage-{process}-{k}"));
+    let mut page = Page::over(room);
+    page.put_bytes(folder_of(path));
+    page.put_bytes(name.as_str().as_bytes());
+    let size = page.size();
+    front(room, size)
 }
 
 // Makes a new file, open for writing.
@@ -262,58 +220,50 @@ fn unlink(session: &Session, path: &[u8]) {
     }
 }
 
-// A new file beside another, open for writing, or why there is none, and the length of its path, which is left in a buffer.
+// A new file beside another, open for writing, and its number.
 #[derive(Drop)]
 struct Part {
-    made: io::Result<File>,
-    size: usize,
-}
-
-impl Part {
-    // Whether there is a file of that name already.
-    fn is_taken(&self) -> bool {
-        match &self.made {
-            Ok(_) => false,
-            Err(e) => e.kind() == ErrorKind::AlreadyExists,
-        }
-    }
+    file: File,
+    number: usize,
 }
 
 // Makes it. The launcher, which removes it if the program is ended before its time, has heard its path: of the first one when the
 // folder was tried, and of any other now.
-fn try_part(session: &Session, path: &[u8], k: usize, part: &mut [u8]) -> Part {
-    let size = put_part(session, path, k, part);
-    if k != 0 {
-        session.tell(front(part, size));
+fn try_part(session: &Session, path: &[u8], number: usize) -> io::Result<Part> {
+    let mut room = [0u8; 4096];
+    let part = part_of(session, path, number, &mut room);
+    if number != 0 {
+        session.tell(part);
     }
-    Part {
-        made: create(session, front(part, size)),
-        size,
-    }
+    let file = create(session, part)?;
+    Ok(Part { file, number })
 }
 
 // The same under the first name that is free, of a hundred.
-fn make_part(session: &Session, path: &[u8], part: &mut [u8]) -> Part {
-    let mut made = try_part(session, path, 0, part);
-    for k in 1..100 {
-        if !made.is_taken() {
-            return made;
+fn make_part(session: &Session, path: &[u8]) -> io::Result<Part> {
+    for number in 0..99 {
+        match try_part(session, path, number) {
+            Err(e) if e.kind() == ErrorKind::AlreadyExists => {}
+            made => return made,
         }
-        made = try_part(session, path, k, part);
     }
-    made
+    try_part(session, path, 99)
 }
 
-// Gives a new file the owner, group and mode of the one that it is to replace, as writing into that one would have left them.
-fn keep_mode(file: &File, old: Facts) -> io::Result<()> {
-    if !old.known {
+// Gives a new file the owner, group and mode of the one that it is to replace, as writing into that one would have left them. A new
+// file of which nothing can be learned counts as the first user's.
+fn keep_mode(file: &File, old: &Option<Metadata>) -> io::Result<()> {
+    let Some(old) = old else {
         return Ok(());
+    };
+    let (owner, group) = match file.metadata() {
+        Ok(new) => (new.uid(), new.gid()),
+        Err(_) => (0, 0),
+    };
+    if owner != old.uid() || group != old.gid() {
+        fchown(file, Some(old.uid()), Some(old.gid()))?;
     }
-    let new = facts_of(file.metadata());
-    if new.owner != old.owner || new.group != old.group {
-        fchown(file, Some(old.owner), Some(old.group))?;
-    }
-    file.set_permissions(Permissions::from_mode(old.mode))
+    file.set_permissions(Permissions::from_mode(old.mode() % 4096))
 }
 
 // The system's number for what a file cannot do, EINVAL.
@@ -327,18 +277,10 @@ fn settle(file: &File) -> io::Result<()> {
     }
 }
 
-// Writes all of some bytes, or says why they could not be written.
-fn write_bytes<W: Write + Drop>(output: W, bytes: &[u8]) -> io::Result<()> {
-    let mut sink = Sink::over(output);
-    if write_whole(&mut sink, bytes) {
-        return Ok(());
-    }
-    Err(sink.error())
-}
-
 // Fills a new file: every byte written, its mode set, all of it on the disk. It is closed in any case.
-fn fill_part(file: File, old: Facts, bytes: &[u8]) -> io::Result<()> {
-    write_bytes(&file, bytes)?;
+fn fill_part(file: File, old: &Option<Metadata>, bytes: &[u8]) -> io::Result<()> {
+    let mut to = &file;
+    write_whole(&mut to, bytes)?;
     keep_mode(&file, old)?;
     settle(&file)
 }
@@ -356,69 +298,60 @@ fn rename(session: &Session, from: &[u8], to: &[u8]) -> io::Result<()> {
     fs::rename(&session.rt, text_of(from)?, text_of(to)?)
 }
 
-// Gives a new file the name of its place, unless a file that is not to be overwritten has come to be there. Says why it could not.
-fn put_in_place(session: &Session, part: &[u8], path: &[u8], force: bool) -> bool {
+// Gives a new file the name of its place, unless a file that is not to be overwritten has come to be there.
+fn put_in_place(session: &Session, part: &[u8], path: &[u8], force: bool) -> Result<(), Told> {
     if !force && is_there(session, path) {
-        say_there(session, path);
-        return false;
+        return Err(say_there(session, path));
     }
-    match rename(session, part, path) {
-        Ok(()) => true,
-        Err(e) => {
-            say_failed(session, b"cannot write ", path, e);
-            false
-        }
-    }
+    rename(session, part, path).map_err(|e| say_failed(session, b"cannot write ", path, e))
 }
 
-// Fills a new file and gives it the name of its place. Where anything fails the new file goes.
+// Fills a new file and gives it the name of its place.
 fn complete(
     session: &Session,
     file: File,
     part: &[u8],
     path: &[u8],
-    old: Facts,
+    old: &Option<Metadata>,
     force: bool,
     bytes: &[u8],
-) -> bool {
-    if let Err(e) = fill_part(file, old, bytes) {
-        say_failed(session, b"cannot write ", path, e);
-        unlink(session, part);
-        return false;
-    }
-    if !put_in_place(session, part, path, force) {
-        unlink(session, part);
-        return false;
-    }
-    true
+) -> Result<(), Told> {
+    fill_part(file, old, bytes).map_err(|e| say_failed(session, b"cannot write ", path, e))?;
+    put_in_place(session, part, path, force)
 }
 
 // Writes a file of its own: into a new file beside it, which takes its name when it is whole. Where anything fails the new file
 // goes, and the old one is as it was.
-fn replace(session: &Session, path: &[u8], old: Facts, force: bool, bytes: &[u8]) -> bool {
-    let mut part = [0u8; 4096];
-    let made = make_part(session, path, &mut part);
-    let name = front(&part, made.size);
-    match made.made {
-        Ok(file) => complete(session, file, name, path, old, force, bytes),
-        Err(e) => {
-            say_failed(session, b"cannot make a new file beside ", path, e);
-            false
-        }
+fn replace(
+    session: &Session,
+    path: &[u8],
+    old: &Option<Metadata>,
+    force: bool,
+    bytes: &[u8],
+) -> Result<(), Told> {
+    let Part { file, number } = make_part(session, path).map_err(|e| say_failed(
+        session,
+        b"cannot make a new file beside ",
+        path,
+        e,
+    ))?;
+    let mut room = [0u8; 4096];
+    let part = part_of(session, path, number, &mut room);
+    let done = complete(session, file, part, path, old, force, bytes);
+    if done.is_err() {
+        unlink(session, part);
     }
+    done
 }
 
 // Writes to an open file and closes it.
-fn write_directly(session: &Session, name: &[u8], file: File, bytes: &[u8]) -> bool {
-    let written = write_bytes(&file, bytes);
+fn write_directly(session: &Session, name: &[u8], file: File, bytes: &[u8]) -> Result<(), Told> {
+    let mut to = &file;
+    let written = write_whole(&mut to, bytes);
     let settled = settle(&file);
-    match written.and(settled) {
-        Ok(()) => true,
-        Err(e) => {
-            say_failed(session, b"cannot write to ", name, e);
-            false
-        }
-    }
+    written
+        .and(settled)
+        .map_err(|e| say_failed(session, b"cannot write to ", name, e))
 }
 
 // Opens the file that standard output goes to, and waits until it is on its disk. A file that cannot be opened so is left alone.
@@ -436,40 +369,41 @@ fn settle_output(session: &Session) -> io::Result<()> {
 pub(crate) fn close_output(session: &Session) -> io::Result<()> {
     let copy = session.rt.stdout().as_fd().try_clone_to_owned()?;
     drop(copy);
-    if output_facts(session).is_regular() {
-        return settle_output(session);
+    if regular_size(&output_facts(session)).is_none() {
+        return Ok(());
     }
-    Ok(())
+    settle_output(session)
 }
 
 // Writes to standard output and closes it.
-fn write_standard(session: &Session, name: &[u8], stdout: Stdout, bytes: &[u8]) -> bool {
-    let written = write_bytes(stdout, bytes);
+fn write_standard(
+    session: &Session,
+    name: &[u8],
+    stdout: Stdout,
+    bytes: &[u8],
+) -> Result<(), Told> {
+    let mut to = stdout;
+    let written = write_whole(&mut to, bytes);
     let closed = close_output(session);
-    match written.and(closed) {
-        Ok(()) => true,
-        Err(e) => {
-            say_failed(session, b"cannot write to ", name, e);
-            false
-        }
-    }
+    written
+        .and(closed)
+        .map_err(|e| say_failed(session, b"cannot write to ", name, e))
 }
 
-// Writes what was asked for to its place: all of it, or nothing where a file of its own cannot be whole. Whether it is there.
+// Writes what was asked for to its place: all of it, or nothing where a file of its own cannot be whole.
 // Its caller shows that these bytes are what was asked for, of what was read.
 pub(crate) fn deliver(
     session: &Session,
     asked: Output,
     target: Target,
-    path: &[u8],
     bytes: &[u8],
-) -> bool
+) -> Result<(), Told>
     requires { Made asked bytes.now }
 {
-    let name = front(path, target.size);
-    match target.place {
-        Place::Standard(stdout) => write_standard(session, name, stdout, bytes),
-        Place::Open(file) => write_directly(session, name, file, bytes),
-        Place::Beside => replace(session, name, target.old, target.force, bytes),
+    let Target { place, path, old } = target;
+    match place {
+        Place::Standard(stdout) => write_standard(session, path, stdout, bytes),
+        Place::Open(file) => write_directly(session, path, file, bytes),
+        Place::Beside { force } => replace(session, path, &old, force, bytes),
     }
 }

@@ -1,14 +1,11 @@
 // The words after the program's name, as a request. A word is kept by its place among the arguments and read again where it
 // is needed.
-ghost use Rattle.std.specs.Prelude.{◌≡◌, ◌↔◌, IsTrue};
-
-use crate::say::say;
+use crate::say::{Told, say};
 use crate::session::Session;
-use std::env::FillError;
 use std::rt::Env;
 
 // What is asked for.
-#[derive(Clone, Copy)]
+#[derive(Clone, Copy, PartialEq, Eq)]
 pub(crate) enum Action {
     List,
     Sheet,
@@ -18,12 +15,21 @@ pub(crate) enum Action {
     Check,
     Totals,
     Help,
-    Unknown,
 }
 
-// What the words after the action ask for. Files are places among the arguments, 0 where none is named. `wants` says that the
-// next word is the output's name, `plain` that every further word is a file's. `fault` is the first thing wrong, and `at` the
-// place of its word.
+// What is wrong with the words; a place is that of the word.
+#[derive(Clone, Copy)]
+enum Fault {
+    NoSuchOption(usize),
+    SecondInput(usize),
+    SecondOutput(usize),
+    TooLong,
+    NoOutputName,
+    TwoForms,
+}
+
+// What the words after the action ask for. Files are places among the arguments. `wants` says that the next word is the output's name,
+// `plain` that every further word is a file's. `fault` is the first thing wrong.
 #[derive(Clone, Copy)]
 pub(crate) struct Options {
     pub confirmed: bool,
@@ -31,80 +37,26 @@ pub(crate) struct Options {
     pub csv: bool,
     pub force: bool,
     pub help: bool,
-    pub wants: bool,
-    pub plain: bool,
-    pub input: usize,
-    pub output: usize,
-    pub fault: u8,
-    pub at: usize,
-}
-
-const NO_FAULT: u8 = 0;
-
-const NO_SUCH_OPTION: u8 = 1;
-
-const SECOND_INPUT: u8 = 2;
-
-const SECOND_OUTPUT: u8 = 3;
-
-const TOO_LONG: u8 = 4;
-
-const NO_OUTPUT_NAME: u8 = 5;
-
-const BOTH_FORMS: u8 = 6;
-
-// Whether two words are the same.
-pub(crate) fn same(a: &[u8], b: &[u8]) -> bool
-    ensures { IsTrue result ↔ (a.now ≡ b.now) }
-{
-    a == b
+    pub input: Option<usize>,
+    pub output: Option<usize>,
+    wants: bool,
+    plain: bool,
+    fault: Option<Fault>,
 }
 
 // The action that a word names.
-pub(crate) fn action_of(word: &[u8]) -> Action {
-    if same(word, b"list") {
-        return Action::List;
+pub(crate) fn action_of(word: &[u8]) -> Option<Action> {
+    match word {
+        b"list" => Some(Action::List),
+        b"sheet" => Some(Action::Sheet),
+        b"show" => Some(Action::Show),
+        b"air" => Some(Action::Air),
+        b"figs" => Some(Action::Figs),
+        b"check" => Some(Action::Check),
+        b"totals" => Some(Action::Totals),
+        b"help" | b"--help" | b"-h" => Some(Action::Help),
+        _ => None,
     }
-    if same(word, b"sheet") {
-        return Action::Sheet;
-    }
-    if same(word, b"show") {
-        return Action::Show;
-    }
-    if same(word, b"air") {
-        return Action::Air;
-    }
-    if same(word, b"figs") {
-        return Action::Figs;
-    }
-    if same(word, b"check") {
-        return Action::Check;
-    }
-    if same(word, b"totals") {
-        return Action::Totals;
-    }
-    if same(word, b"help") {
-        return Action::Help;
-    }
-    if asks_help(word) {
-        return Action::Help;
-    }
-    Action::Unknown
-}
-
-fn asks_help(word: &[u8]) -> bool {
-    if same(word, b"--help") {
-        return true;
-    }
-    same(word, b"-h")
-}
-
-// A word that begins with '-' and goes on is an option.
-fn is_option(word: &[u8]) -> bool {
-    if word.len() < 2 {
-        return false;
-    }
-    word[0] == b'-'
 }
 
 impl Options {
@@ -116,178 +68,120 @@ impl Options {
             csv: false,
             force: false,
             help: false,
+            input: None,
+            output: None,
             wants: false,
             plain: false,
-            input: 0,
-            output: 0,
-            fault: NO_FAULT,
-            at: 0,
+            fault: None,
         }
     }
 
-    fn with_fault(self, fault: u8, at: usize) -> Options {
-        let mut next = self;
-        next.fault = fault;
-        next.at = at;
-        next
+    fn take_input(&mut self, i: usize) -> Result<(), Fault> {
+        if self.input.is_some() {
+            return Err(Fault::SecondInput(i));
+        }
+        self.input = Some(i);
+        Ok(())
     }
 
-    fn with_input(self, i: usize) -> Options {
-        if self.input != 0 {
-            return self.with_fault(SECOND_INPUT, i);
+    fn take_output(&mut self, i: usize) -> Result<(), Fault> {
+        if self.output.is_some() {
+            return Err(Fault::SecondOutput(i));
         }
-        let mut next = self;
-        next.input = i;
-        next
+        self.output = Some(i);
+        self.wants = false;
+        Ok(())
     }
 
-    fn with_output(self, i: usize) -> Options {
-        if self.output != 0 {
-            return self.with_fault(SECOND_OUTPUT, i);
+    fn take_option(&mut self, i: usize, word: &[u8]) -> Result<(), Fault> {
+        match word {
+            b"--confirmed" => self.confirmed = true,
+            b"--table" => self.table = true,
+            b"--csv" => self.csv = true,
+            b"-f" => self.force = true,
+            b"-o" => self.wants = true,
+            b"--" => self.plain = true,
+            b"--help" | b"-h" => self.help = true,
+            _ => return Err(Fault::NoSuchOption(i)),
         }
-        let mut next = self;
-        next.wants = false;
-        next.output = i;
-        next
+        Ok(())
     }
 
-    fn with_option(self, i: usize, word: &[u8]) -> Options {
-        let mut next = self;
-        if same(word, b"--confirmed") {
-            next.confirmed = true;
-            return next;
+    // Takes the word at a place. One that begins with '-' and goes on is an option.
+    fn take_word(&mut self, i: usize, word: &[u8]) -> Result<(), Fault> {
+        match word {
+            _ if self.wants => self.take_output(i),
+            [b'-', _, ..] if !self.plain => self.take_option(i, word),
+            _ => self.take_input(i),
         }
-        if same(word, b"--table") {
-            next.table = true;
-            return next;
-        }
-        if same(word, b"--csv") {
-            next.csv = true;
-            return next;
-        }
-        if same(word, b"-f") {
-            next.force = true;
-            return next;
-        }
-        if same(word, b"-o") {
-            next.wants = true;
-            return next;
-        }
-        if same(word, b"--") {
-            next.plain = true;
-            return next;
-        }
-        if asks_help(word) {
-            next.help = true;
-            return next;
-        }
-        self.with_fault(NO_SUCH_OPTION, i)
     }
 
-    // With the word at a place. After the first fault no word counts.
-    fn with_word(self, i: usize, word: &[u8]) -> Options {
-        if self.fault != NO_FAULT {
-            return self;
+    // Takes the argument at a place. After the first fault no word counts, but for one that is too long.
+    fn take_argument(&mut self, session: &Session, i: usize) {
+        let mut room = [0u8; 4096];
+        match session.rt.arg(i, &mut room) {
+            Ok(n) if self.fault.is_none() => self.fault = self.take_word(i, &room[..n]).err(),
+            Ok(_) => {}
+            Err(_) => self.fault = Some(Fault::TooLong),
         }
+    }
+
+    // What is wrong after the last word: of the forms there can be one.
+    fn end_fault(self) -> Option<Fault> {
         if self.wants {
-            return self.with_output(i);
+            return Some(Fault::NoOutputName);
         }
-        if self.plain {
-            return self.with_input(i);
+        if self.table && self.csv || self.confirmed && (self.table || self.csv) {
+            return Some(Fault::TwoForms);
         }
-        if is_option(word) {
-            return self.with_option(i, word);
-        }
-        self.with_input(i)
+        None
     }
 
-    // With the argument at a place.
-    fn with_argument(self, session: &Session, i: usize) -> Options {
-        let mut word = [0u8; 4096];
-        match session.rt.arg(i, &mut word) {
-            Ok(n) => self.with_word(i, &word[..n]),
-            Err(_) => self.with_fault(TOO_LONG, i),
+    // Says what is wrong with the words, if anything is.
+    pub(crate) fn see_right(self, session: &Session) -> Result<(), Told> {
+        match self.fault {
+            Some(fault) => Err(explain(session, fault)),
+            None => Ok(()),
         }
-    }
-
-    // Whether two of the forms are asked for, of which there can be one.
-    fn has_two_forms(self) -> bool {
-        if self.table && self.csv {
-            return true;
-        }
-        self.confirmed && (self.table || self.csv)
-    }
-
-    // After the last word.
-    fn ended(self) -> Options {
-        if self.fault != NO_FAULT {
-            return self;
-        }
-        if self.wants {
-            return self.with_fault(NO_OUTPUT_NAME, 0);
-        }
-        if self.has_two_forms() {
-            return self.with_fault(BOTH_FORMS, 0);
-        }
-        self
-    }
-
-    // Says what is wrong with the words, if anything is; whether nothing is.
-    pub(crate) fn are_right(self, session: &Session) -> bool {
-        if self.fault == NO_FAULT {
-            return true;
-        }
-        let mut word = [0u8; 4096];
-        let n = session.rt.arg(self.at, &mut word).unwrap_or(0);
-        explain(session, self.fault, &word[..n]);
-        false
     }
 }
 
 // Says what is wrong with a word.
-fn explain(session: &Session, fault: u8, word: &[u8]) {
-    if fault == NO_SUCH_OPTION {
-        say(session, b"no such option: ", word, b"");
-    } else if fault == SECOND_INPUT {
-        say(session, b"one file at a time: what is ", word, b" for?");
-    } else if fault == SECOND_OUTPUT {
-        say(session, b"one output at a time: what is ", word, b" for?");
-    } else if fault == TOO_LONG {
-        say(
-            session,
-            b"a word of the command is longer than a file's name can be",
-            b"",
-            b"",
-        );
-    } else if fault == NO_OUTPUT_NAME {
-        say(session, b"-o wants a file's name", b"", b"");
-    } else {
-        say(
-            session,
-            b"--confirmed, --table or --csv: only one of them",
-            b"",
-            b"",
-        );
-    }
-}
-
-// How many words the command has, the program's name among them.
-pub(crate) fn arg_count(session: &Session) -> usize {
-    let mut room = [0u8; 1];
-    for i in 0..usize::MAX {
-        if let Err(FillError::NotPresent) = session.rt.arg(i, &mut room) {
-            return i;
+fn explain(session: &Session, fault: Fault) -> Told {
+    let mut room = [0u8; 4096];
+    match fault {
+        Fault::NoSuchOption(at) => {
+            say(session, &[b"no such option: ", session.word(at, &mut room)])
         }
+        Fault::SecondInput(at) => {
+            let word = session.word(at, &mut room);
+            say(session, &[b"one file at a time: what is ", word, b" for?"])
+        }
+        Fault::SecondOutput(at) => {
+            let word = session.word(at, &mut room);
+            say(
+                session,
+                &[b"one output at a time: what is ", word, b" for?"],
+            )
+        }
+        Fault::TooLong => say(
+            session,
+            &[b"a word of the command is longer than a file's name can be"],
+        ),
+        Fault::NoOutputName => say(session, &[b"-o wants a file's name"]),
+        Fault::TwoForms => say(
+            session,
+            &[b"--confirmed, --table or --csv: only one of them"],
+        ),
     }
-    usize::MAX
 }
 
 // What the words from the third on ask for: the first is the program's name, the second the action.
 pub(crate) fn read_options(session: &Session) -> Options {
-    let count = arg_count(session);
     let mut options = Options::none();
-    for i in 2..count {
-        options = options.with_argument(session, i);
+    for i in 2..session.word_count() {
+        options.take_argument(session, i);
     }
-    options.ended()
+    options.fault = options.fault.or(options.end_fault());
+    options
 }

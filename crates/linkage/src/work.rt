@@ -2,48 +2,46 @@
 // written. What is handed to `deliver` is proved to be all of what was asked for, of what was read (specs/Made.antt).
 ghost use Rattle.linkage.specs.Made.{Holding};
 
-use crate::figs_text;
-use crate::say::{say, say_failed, say_number};
+use crate::facts::regular_size;
+use crate::figs_text::list_figs;
+use crate::say::{Told, say, say_failed, say_number, write_help};
 use crate::session::Session;
-use crate::sink::Sink;
 use crate::source::Source;
 use crate::target::{Target, close_output, deliver};
 use input::Received;
-use out::front;
+use out::{Unwritten, front};
 use outputs::{Output, write_output};
 use rules::Outcome;
 use std::io;
 use std::io::IsTerminal;
 use table::Table;
 
-// Where progress is told, in bytes of so many: on a terminal, of a file whose size is known. Else 0.
-fn expected(session: &Session, source: &Source) -> usize {
-    let facts = source.facts;
-    if !facts.is_regular() {
-        return 0;
+// Where progress is told, in bytes of so many: on a terminal, of a file whose size is known.
+fn expected(session: &Session, source: &Source) -> Option<usize> {
+    let size = regular_size(&source.facts)?;
+    if 0 < size && session.rt.stderr().is_terminal() {
+        Some(size)
+    } else {
+        None
     }
-    if session.rt.stderr().is_terminal() {
-        return facts.size;
-    }
-    0
 }
 
 // Says that a read failed, after so many bytes.
-fn say_broken(session: &Session, name: &[u8], size: usize, error: io::Error) {
+fn say_broken(session: &Session, name: &[u8], size: usize, error: io::Error) -> Told {
     say_failed(session, b"cannot read ", name, error);
     say_number(
         session,
         b"reading broke off after ",
         size,
         b" bytes: nothing was written",
-    );
+    )
 }
 
 // Says why nothing was written. Tables that were read meet the rules and buffers are long enough, so that nobody should see it.
-fn say_unwritten(session: &Session, outcome: Outcome) {
-    match outcome {
-        Outcome::WrongTable => say(session, b"the table breaks its rules (9)", b"", b""),
-        _ => say(session, b"the output finds no room (8)", b"", b""),
+fn say_unwritten(session: &Session, why: Unwritten) -> Told {
+    match why {
+        Unwritten::WrongTable => say(session, &[b"the table breaks its rules (9)"]),
+        Unwritten::ShortBuffer => say(session, &[b"the output finds no room (8)"]),
     }
 }
 
@@ -60,9 +58,9 @@ fn say_unshown(session: &Session, blocks: usize, refused: usize) {
     }
     say(
         session,
-        b"a set is shown when the next start of its list has come; a refused block drops open lists. 'figs' tells what the blocks hold",
-        b"",
-        b"",
+        &[
+            b"a set is shown when the next start of its list has come; a refused block drops open lists. 'figs' tells what the blocks hold",
+        ],
     );
 }
 
@@ -75,9 +73,7 @@ fn remark_table(session: &Session, table: Table, blocks: usize, refused: usize) 
     if sets.count == Table::KEYS {
         say(
             session,
-            b"the table holds 32 sets, as many as it can: others may have found no room",
-            b"",
-            b"",
+            &[b"the table holds 32 sets, as many as it can: others may have found no room"],
         );
     }
 }
@@ -92,23 +88,23 @@ fn say_no_recording(session: &Session, blocks: usize) {
     );
     say(
         session,
-        b"a recording is blocks of 32 bytes, one after another, the last two bytes of each a check over the 30 before them",
-        b"",
-        b"",
+        &[
+            b"a recording is blocks of 32 bytes, one after another, the last two bytes of each a check over the 30 before them",
+        ],
     );
 }
 
 // What is worth knowing of so many bytes that were read as blocks: none, or no block with a good check.
 fn remark_blocks(session: &Session, size: usize, good: bool) {
     if size == 0 {
-        say(session, b"the input is empty", b"", b"");
+        say(session, &[b"the input is empty"]);
     } else if 32 <= size && !good {
         say_no_recording(session, size / 32);
     }
 }
 
 // What is worth knowing of a recording beside what is listed.
-fn remark(session: &Session, received: Received) {
+fn remark(session: &Session, received: &Received) {
     if received.rest != 0 {
         say_number(
             session,
@@ -119,8 +115,12 @@ fn remark(session: &Session, received: Received) {
     }
     remark_blocks(session, received.size, received.good);
     if received.good {
-        let table = received.table;
-        remark_table(session, table, received.size / 32, received.refused);
+        remark_table(
+            session,
+            received.table,
+            received.size / 32,
+            received.refused,
+        );
     }
 }
 
@@ -131,18 +131,14 @@ fn hand_over(
     table: Table,
     rest: usize,
     target: Target,
-    path: &[u8],
-) -> bool
+) -> Result<(), Told>
     requires { Holding table rest }
 {
     let mut made = [0u8; 264000];
-    let written = write_output(asked, table, rest, &mut made);
-    let outcome = written.outcome;
-    let Outcome::Done = outcome else {
-        say_unwritten(session, outcome);
-        return false;
-    };
-    deliver(session, asked, target, path, front(&made, written.size))
+    match write_output(asked, table, rest, &mut made) {
+        Ok(size) => deliver(session, asked, target, front(&made, size)),
+        Err(why) => Err(say_unwritten(session, why)),
+    }
 }
 
 // A recording: read, handed over, and remarked on.
@@ -150,22 +146,16 @@ pub(crate) fn use_recording(
     session: &Session,
     asked: Output,
     source: &mut Source,
-    name: &[u8],
     target: Target,
-    path: &[u8],
-) -> bool {
+) -> Result<(), Told> {
     let whole = expected(session, source);
-    let received = input::receive(source, whole, &mut session.rt.stderr());
-    if received.failed {
-        say_broken(session, name, received.size, source.error());
-        return false;
+    let received = input::receive(&mut source.opened, whole, &mut session.rt.stderr());
+    if let Some(e) = received.failed {
+        return Err(say_broken(session, source.name, received.size, e));
     }
-    let table = received.table;
-    if !hand_over(session, asked, table, received.rest, target, path) {
-        return false;
-    }
-    remark(session, received);
-    true
+    hand_over(session, asked, received.table, received.rest, target)?;
+    remark(session, &received);
+    Ok(())
 }
 
 // A sheet: loaded, and handed over.
@@ -173,73 +163,65 @@ pub(crate) fn use_sheet(
     session: &Session,
     asked: Output,
     source: &mut Source,
-    name: &[u8],
     target: Target,
-    path: &[u8],
-) -> bool {
-    let fetched = input::receive_sheet(source);
-    if fetched.failed {
-        say_broken(session, name, fetched.size, source.error());
-        return false;
+) -> Result<(), Told> {
+    let fetched = input::receive_sheet(&mut source.opened);
+    if let Some(e) = fetched.failed {
+        return Err(say_broken(session, source.name, fetched.size, e));
     }
-    let loaded = fetched.loaded;
-    let accepted = loaded.outcome;
-    let Outcome::Done = accepted else {
-        say(session, b"not a sheet (10)", b"", b"");
-        return false;
+    let Outcome::Done = fetched.loaded.outcome else {
+        return Err(say(session, &[b"not a sheet (10)"]));
     };
-    let table = loaded.table;
-    hand_over(session, asked, table, 0, target, path)
+    hand_over(session, asked, fetched.loaded.table, 0, target)
 }
 
-// How a text ends that is written while a recording is read, where it was read and all of it written: whether it is kept, and what
-// is worth knowing beside it.
-fn end_text(session: &Session, size: usize, good: bool) -> bool {
-    if let Err(e) = close_output(session) {
-        say_failed(session, b"cannot write to standard output", b"", e);
-        return false;
+// Says that standard output could not be written to.
+fn say_unwritable(session: &Session, error: io::Error) -> Told {
+    say_failed(session, b"cannot write to standard output", b"", error)
+}
+
+// How a text ends that is written while a recording is read, which was read to its end where no read failed: whether it is kept, and
+// what is worth knowing beside it.
+fn end_text(
+    session: &Session,
+    source: &Source,
+    failed: Option<io::Error>,
+    size: usize,
+    good: bool,
+) -> Result<(), Told> {
+    if let Some(e) = failed {
+        return Err(say_failed(session, b"cannot read ", source.name, e));
     }
+    close_output(session).map_err(|e| say_unwritable(session, e))?;
     remark_blocks(session, size, good);
-    true
+    Ok(())
 }
 
 // The FIGs of a recording, listed while it is read.
-pub(crate) fn use_figs(session: &Session, source: &mut Source, name: &[u8]) -> bool {
-    let mut output = Sink::over(session.rt.stdout());
-    let listed = figs_text::list_figs(source, &mut output);
-    if !listed.written {
-        say_failed(
-            session,
-            b"cannot write to standard output",
-            b"",
-            output.error(),
-        );
-        return false;
-    }
-    if listed.failed {
-        say_failed(session, b"cannot read ", name, source.error());
-        return false;
-    }
-    end_text(session, listed.size, listed.good)
+pub(crate) fn use_figs(session: &Session, source: &mut Source) -> Result<(), Told> {
+    let listed = list_figs(&mut source.opened, &mut session.rt.stdout()).map_err(|e| say_unwritable(
+        session, e,
+    ))?;
+    end_text(session, source, listed.failed, listed.size, listed.good)
 }
 
 // The refused blocks of a recording, told while it is read, and its counts.
-pub(crate) fn use_check(session: &Session, source: &mut Source, name: &[u8]) -> bool {
-    let mut output = Sink::over(session.rt.stdout());
-    let checked = input::check_recording(source, &mut output);
-    let received = checked.received;
-    if !checked.written {
-        say_failed(
-            session,
-            b"cannot write to standard output",
-            b"",
-            output.error(),
-        );
-        return false;
-    }
-    if received.failed {
-        say_failed(session, b"cannot read ", name, source.error());
-        return false;
-    }
-    end_text(session, received.size, received.good)
+pub(crate) fn use_check(session: &Session, source: &mut Source) -> Result<(), Told> {
+    let checked = input::check_recording(&mut source.opened, &mut session.rt.stdout());
+    checked.written.map_err(|e| say_unwritable(session, e))?;
+    let received = &checked.received;
+    end_text(
+        session,
+        source,
+        received.failed,
+        received.size,
+        received.good,
+    )
+}
+
+// The text of `help`, to standard output.
+pub(crate) fn help(session: &Session) -> Result<(), Told> {
+    write_help(&mut session.rt.stdout())
+        .and_then(|()| close_output(session))
+        .map_err(|e| say_unwritable(session, e))
 }

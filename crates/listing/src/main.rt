@@ -4,68 +4,37 @@
 // write that fails is said on standard error; after a failed read nothing is printed.
 #![tactic(auto)]
 
-use out::{front, put, put_bytes, put_decimal};
+use out::front;
 use std::fmt::InlineText;
 use std::io;
-use std::io::{Read, Write};
-use std::rt::Stdin;
+use std::io::Write;
 
-// Standard input, and why its last read failed, if it did.
-#[derive(Drop)]
-struct Source {
-    stdin: Stdin,
-    error: Option<io::Error>,
-}
-
-impl Read for Source {
-    fn read(&mut self, buf: &mut [u8]) -> io::Result<usize> {
-        let got = self.stdin.read(buf);
-        if let Err(e) = got {
-            self.error = Some(e);
-        }
-        got
-    }
-}
-
-// How many of so many bytes of an error's text are the system's own: the library puts its number behind them.
-fn system_size(error: io::Error, size: usize) -> usize {
-    match error.raw_os_error() {
-        Some(code) => {
-            let mut digits = [0u8; 20];
-            let n = put_decimal(&mut digits, 0, code.unsigned_abs() as usize);
-            size.saturating_sub(n).saturating_sub(12)
-        }
-        None => size,
+// The system's own words for an error: what stands before the number that the library puts behind them.
+// Kept: the other programs have these lines too; one of them for all would be a promise of a library.
+fn own_words(text: &str) -> &str {
+    match text.split_once(" (os error ") {
+        Some((words, _)) => words,
+        None => text,
     }
 }
 
 // Says on standard error what failed, and what the system says of it.
-fn fail(rt: &HostRuntime, what: &[u8], error: io::Error) {
+fn fail(rt: &HostRuntime, what: &str, error: io::Error) {
     let text = InlineText::<256>::of(error);
-    let bytes = text.as_str().as_bytes();
-    let mut line = [0u8; 512];
-    let a = put_bytes(&mut line, 0, what);
-    let b = put_bytes(&mut line, a, b": ");
-    let c = put_bytes(&mut line, b, front(bytes, system_size(error, bytes.len())));
-    let d = put(&mut line, c, 10);
-    let _ = Write::write_all(&mut rt.stderr(), front(&line, d));
+    let said = own_words(text.as_str());
+    let line = InlineText::<512>::of(format_args!("listing: {what}: {said}\n"));
+    let _ = Write::write_all(&mut rt.stderr(), line.as_str().as_bytes());
 }
 
 fn main(rt: HostRuntime) {
-    let mut source = Source {
-        stdin: rt.stdin(),
-        error: None,
-    };
-    let received = input::receive(&mut source, 0, &mut rt.stderr());
-    if received.failed {
-        let error = source.error.unwrap_or(io::Error::from_raw_os_error(0));
-        fail(&rt, b"listing: cannot read standard input", error);
-        return;
+    let received = input::receive(&mut rt.stdin(), None, &mut rt.stderr());
+    if let Some(error) = received.failed {
+        return fail(&rt, "cannot read standard input", error);
     }
-    let table = received.table;
     let mut made = [0u8; 49152];
-    let written = text::write_listing(table, received.rest, &mut made);
-    if let Err(e) = Write::write_all(&mut rt.stdout(), front(&made, written.size)) {
-        fail(&rt, b"listing: cannot write to standard output", e);
+    // A table that was read meets the rules, and the longest list finds room.
+    let size = text::write_listing(received.table, received.rest, &mut made).unwrap_or(0);
+    if let Err(error) = Write::write_all(&mut rt.stdout(), front(&made, size)) {
+        fail(&rt, "cannot write to standard output", error);
     }
 }

@@ -5,8 +5,8 @@ use native.Mathlib.Omega.{arith}
 use mathlib.Core.Path.{◌≡◌, refl, sym, ap, ap₂, ◌∙◌}
 use mathlib.Core.Bool.{Bool, true, false, cond}
 use mathlib.Core.List.{List, [], ◌∷◌, ◌++◌}
-use mathlib.Core.Option.{Option, none, some}
-use lib.ListN.{length, drop, replicate, length-append}
+use Rattle.std.specs.Prelude.{Option, Some, None}
+use lib.ListN.{length, replicate, length-append}
 use lib.Dec.{ltb, leb}
 use borrow.Author.Tests.{lt-ltb, le-ltb, le-leb, lt-leb, ltb-true, ltb-false}
 use Rattle.rules.specs.Arrays.{padded}
@@ -23,7 +23,7 @@ use Rattle.field.specs.FieldStep.{identifier_at, pair_of, meaning, pairs_from}
 use Rattle.field.proofs.Laws.{InBody, pairs_count, pairs_all, pairs_none, pairs_step}
 use Rattle.lists.specs.declared.IdList.{IdList}
 use Rattle.lists.specs.Stored.{store_list, empty_list, pairs_in}
-use Rattle.lists.specs.Grown.{put, grown, grown_as, field_pairs, renamed, with_field}
+use Rattle.lists.specs.Grown.{put, grown, field_pairs, renamed, with_field}
 use Rattle.lists.proofs.StoredLaws.{pairs_in_store}
 
 -- ---- one turn of the loop
@@ -41,28 +41,28 @@ module _ (body : List ℕ) (f : Field) (count i : ℕ) (l : IdList) where
     unfolding pair
     is_pair = ap₂ pair (p ∙ ap (λ (x : Identifier). (pair_of x).kind) e) (q ∙ ap (λ (x : Identifier). (pair_of x).number) e)
 
-    stands : (b : Bool) → b ≡ member linkage (pair k n) (drop 0 (pairs_in l.kinds l.numbers l.len))
+    stands : (b : Bool) → b ≡ member linkage (pair k n) (pairs_in l.kinds l.numbers l.len)
         → member linkage (pair_of (identifier_at body f i)) (pairs_in l.kinds l.numbers l.len) ≡ b
     stands b m = sym (m ∙ ap (λ (x : Pair). member linkage x (pairs_in l.kinds l.numbers l.len)) is_pair)
 
-    pub grown_there : (b : Bool) → b ≡ member linkage (pair k n) (drop 0 (pairs_in l.kinds l.numbers l.len)) → b ≡ true → i < count
+    pub grown_there : (b : Bool) → b ≡ member linkage (pair k n) (pairs_in l.kinds l.numbers l.len) → b ≡ true → i < count
         → grown l (field_pairs body f (i + 1) (count - (i + 1))) ≡ grown l (field_pairs body f i (count - i))
     unfolding grown
     grown_there b m t h = sym (ap (grown l) (fields_turn h) ∙ rw (stands b m ∙ t))
 
-    pub grown_put : (b : Bool) → b ≡ member linkage (pair k n) (drop 0 (pairs_in l.kinds l.numbers l.len)) → b ≡ false → i < count → l.len < most_ids
+    pub grown_put : (b : Bool) → b ≡ member linkage (pair k n) (pairs_in l.kinds l.numbers l.len) → b ≡ false → i < count → l.len < most_ids
         → grown (put l (pair k n)) (field_pairs body f (i + 1) (count - (i + 1))) ≡ grown l (field_pairs body f i (count - i))
     unfolding grown
     grown_put b m t h g =
         ap (λ (x : Pair). grown (put l x) (field_pairs body f (i + 1) (count - (i + 1)))) is_pair
         ∙ sym (ap (grown l) (fields_turn h) ∙ rw (stands b m ∙ t, lt-ltb l.len most_ids g))
 
-    pub grown_full : (b : Bool) → b ≡ member linkage (pair k n) (drop 0 (pairs_in l.kinds l.numbers l.len)) → b ≡ false → i < count → most_ids ≤ l.len
-        → grown l (field_pairs body f i (count - i)) ≡ none
+    pub grown_full : (b : Bool) → b ≡ member linkage (pair k n) (pairs_in l.kinds l.numbers l.len) → b ≡ false → i < count → most_ids ≤ l.len
+        → grown l (field_pairs body f i (count - i)) ≡ None
     unfolding grown
     grown_full b m t h g = ap (grown l) (fields_turn h) ∙ rw (stands b m ∙ t, le-ltb l.len most_ids g)
 
-  pub grown_end : count ≤ i → grown l (field_pairs body f i (count - i)) ≡ some l
+  pub grown_end : count ≤ i → grown l (field_pairs body f i (count - i)) ≡ Some l
   unfolding grown field_pairs
   grown_end h =
       let e : count - i ≡ 0 = omega arith in
@@ -70,10 +70,10 @@ module _ (body : List ℕ) (f : Field) (count i : ℕ) (l : IdList) where
 
 -- what the loop made is the list with the field
 pub with_field_is : (l : IdList) (body : List ℕ) (f : Field) (named m : ℕ) (g : Option IdList) → m ≡ named_by f.qualifier → named ≡ join_names l.named m
-    → grown (renamed l named) (field_pairs body f 0 f.count) ≡ g → grown_as g ≡ with_field l body f
+    → grown (renamed l named) (field_pairs body f 0 f.count) ≡ g → g ≡ with_field l body f
 unfolding with_field
 with_field_is l body f named m g p q e =
-    ap grown_as (sym e) ∙ ap (λ (n : ℕ). grown_as (grown (renamed l n) (field_pairs body f 0 f.count))) (q ∙ ap (join_names l.named) p)
+    sym e ∙ ap (λ (n : ℕ). grown (renamed l n) (field_pairs body f 0 f.count)) (q ∙ ap (join_names l.named) p)
 
 pub grown_first : (l : IdList) (body : List ℕ) (f : Field) (n : ℕ) → grown l (field_pairs body f 0 (n - 0)) ≡ grown l (field_pairs body f 0 n)
 grown_first l body f n =
@@ -97,7 +97,7 @@ put_store xs named p h =
 -- adding to a stored list is adding to its items, unless they become too many
 pub grown_store : (ps xs : List Pair) (named : ℕ) → length xs ≤ most_ids
     → grown (store_list (record { items = xs; named = named })) ps
-    ≡ cond (leb (length (added_all linkage xs ps)) most_ids) (some (store_list (record { items = added_all linkage xs ps; named = named }))) none
+    ≡ cond (leb (length (added_all linkage xs ps)) most_ids) (Some (store_list (record { items = added_all linkage xs ps; named = named }))) None
 unfolding grown added_all store_list
 grown_store [] xs named h = rw (le-leb (length xs) most_ids h)
 grown_store (p ∷ ps) xs named h =
@@ -139,19 +139,19 @@ module _ (body : List ℕ) (f : Field) (r : InBody body f) (q : f.qualifier ≡ 
   -- a continuation: the list extended, or dropped where it would be too long
   pub with_store : (l : IdSet) → length l.items ≤ most_ids
       → with_field (store_list l) body f
-      ≡ grown_as (cond (leb (length (extended linkage l (brings (meaning body f))).items) most_ids) (some (store_list (extended linkage l (brings (meaning body f))))) none)
+      ≡ cond (leb (length (extended linkage l (brings (meaning body f))).items) most_ids) (Some (store_list (extended linkage l (brings (meaning body f))))) None
   unfolding with_field extended brings renamed store_list meaning
   with_store l h =
-      ap (λ (ps : List Pair). grown_as (grown (store_list (record { items = l.items; named = join_names l.named (named_by f.qualifier) })) ps)) (field_pairs_law body f r q)
-      ∙ ap grown_as (grown_store (pairs_of (meaning body f)) l.items (join_names l.named (named_by f.qualifier)) h)
+      ap (grown (store_list (record { items = l.items; named = join_names l.named (named_by f.qualifier) }))) (field_pairs_law body f r q)
+      ∙ grown_store (pairs_of (meaning body f)) l.items (join_names l.named (named_by f.qualifier)) h
 
   -- a start: a new list with its identifiers
-  pub with_none : with_field empty_list body f ≡ record { fits = true; list = store_list (opening linkage (brings (meaning body f))) }
-  unfolding with_field opening brings renamed meaning grown_as
+  pub with_none : with_field empty_list body f ≡ Some (store_list (opening linkage (brings (meaning body f))))
+  unfolding with_field opening brings renamed meaning
   with_none =
       let few : length (added_all linkage [] (pairs_of (meaning body f))) ≤ most_ids =
       omega (arith, length_added_all linkage [] (pairs_of (meaning body f)), pairs_count body f, r.count) in
       let new : grown (store_list (record { items = []; named = named_by f.qualifier })) (pairs_of (meaning body f))
-      ≡ some (store_list (record { items = added_all linkage [] (pairs_of (meaning body f)); named = named_by f.qualifier })) =
+      ≡ Some (store_list (record { items = added_all linkage [] (pairs_of (meaning body f)); named = named_by f.qualifier })) =
       grown_store (pairs_of (meaning body f)) [] (named_by f.qualifier) (omega arith) ∙ rw (le-leb _ most_ids few) in
-      ap₂ (λ (l : IdList) (ps : List Pair). grown_as (grown l ps)) (none_named f.qualifier) (field_pairs_law body f r q) ∙ ap grown_as new
+      ap₂ grown (none_named f.qualifier) (field_pairs_law body f r q) ∙ new

@@ -2,15 +2,16 @@
 use Prim.Native.Nat.{ℕ, ◌+◌, ◌≤◌, ◌<◌, min}
 use native.Mathlib.Numerals.{add-one}
 use native.Mathlib.Omega.{arith}
-use mathlib.Core.Path.{◌≡◌}
-use mathlib.Core.Bool.{true}
+use mathlib.Core.Path.{◌≡◌, refl, ap}
+use mathlib.Core.Bool.{Bool, ◌||◌}
 use mathlib.Core.List.{List, [], ◌∷◌}
-use lib.ListN.{length, get_or, drop}
-use borrow.Author.Tests.{eq-eqb, ne_eqb}
-use Rattle.rules.specs.Field.{Pair, pair}
+use lib.ListN.{length, get_or, take, drop}
+use lib.Dec.{eqb}
+use Rattle.std.specs.List.{list_any}
+use Rattle.rules.specs.Field.{pair}
 use Rattle.lists.specs.Kinds.{has_kind}
-use Rattle.lists.specs.Stored.{pairs_in}
-use Rattle.lists.proofs.Pairs.{drop_pairs, drop_pairs_end}
+use Rattle.lists.specs.Stored.{paired, pairs_in}
+use Rattle.lists.proofs.PairLaws.{drop_pairs, drop_pairs_end}
 
 -- ---- the pairs from a place on
 
@@ -23,10 +24,9 @@ module _ (ks ns : List ℕ) (len i : ℕ) {end : ℕ} (len_is : end ≡ min len 
 
 -- ---- a kind among pairs
 
-pub kind_here : (k k' n : ℕ) (ps : List Pair) → k' ≡ k → has_kind k (pair k' n ∷ ps) ≡ true
-unfolding has_kind pair
-kind_here k k' n ps e = rw (eq-eqb k' k e)
-
-pub kind_later : (k k' n : ℕ) (ps : List Pair) → (k' ≡ k → ⊥) → has_kind k (pair k' n ∷ ps) ≡ has_kind k ps
-unfolding has_kind pair
-kind_later k k' n ps e = rw (ne_eqb k' k e)
+-- some kind, of those that have a number, is the one that is looked for
+pub kind_first : (k : ℕ) (ks ns : List ℕ) → list_any (λ (x : ℕ). eqb x k) (take (length (paired ks ns)) ks) ≡ has_kind k (paired ks ns)
+unfolding has_kind paired pair
+kind_first k [] ns = refl
+kind_first k (x ∷ ks) [] = refl
+kind_first k (x ∷ ks) (n ∷ ns) = ap (λ (b : Bool). eqb x k || b) (kind_first k ks ns)

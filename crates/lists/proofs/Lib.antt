@@ -1,4 +1,4 @@
-pub mod Pairs
+pub mod PairLaws
 pub mod KindLaws
 pub mod StoredLaws
 pub mod GrownLaws

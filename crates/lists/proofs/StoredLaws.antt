@@ -3,13 +3,13 @@
 use Prim.Native.Nat.{ℕ, zero, suc, ◌-◌, ◌≤◌}
 use native.Mathlib.Omega.{arith}
 use mathlib.Core.Path.{◌≡◌, refl, sym, ap, ap₂, ◌∙◌, subst}
-use mathlib.Core.Bool.{Bool, true, false, cond, false≢true}
+use mathlib.Core.Bool.{Bool, true, false, cond, ◌&&◌, false≢true}
 use mathlib.Core.List.{List, [], ◌∷◌, ◌++◌, map}
 use mathlib.Core.Option.{Option, none, some}
 use lib.ListN.{length, get_or, take, drop, replicate, length-drop, length-map}
-use lib.Dec.{eqb}
+use lib.Dec.{eqb, leb}
 use lib.Seq.{take-append_seam}
-use borrow.Author.Tests.{eqb-true, eqb-false, eq-eqb, ne_eqb}
+use borrow.Author.Tests.{eqb-true, eqb-false, eq-eqb, ne_eqb, le-leb, leb-true}
 use Rattle.rules.specs.Arrays.{padded}
 use Rattle.rules.specs.Field.{Pair, pair, number_in, kind_in}
 use Rattle.rules.specs.Collecting.{IdSet, key_width, pairs_meet, names_meet, all_differ, not_empty, may_begin, begins_right, if_there, most_ids}
@@ -17,18 +17,16 @@ use Rattle.rules.proofs.Basics.{cases_bool, and_left, and_right}
 use Rattle.rules.proofs.Arrays.{length_padded, drop_padded, same_padded}
 use Rattle.rules.proofs.TableRules.{SetRules, set_rules, some_there, not_empty_law}
 use Rattle.lists.specs.declared.IdList.{IdList}
-use Rattle.lists.specs.Stored.{store_list, empty_list, store_maybe, paired, pairs_in, all_zero, Holds, Tested}
-use Rattle.lists.proofs.Pairs.{length_pairs_in}
+use Rattle.lists.specs.Stored.{store_list, empty_list, store_maybe, paired, pairs_in, all_zero, is_padded, meets_rules, Holds, Tested}
+use Rattle.lists.proofs.PairLaws.{length_pairs_in}
 
 -- ---- zeros
 
 all_zero_replicate : (n : ℕ) → all_zero (replicate n 0) ≡ true
-unfolding all_zero
 all_zero_replicate zero = refl
 all_zero_replicate (suc n) = all_zero_replicate n
 
 zeros_replicate : (xs : List ℕ) → all_zero xs ≡ true → xs ≡ replicate (length xs) 0
-unfolding all_zero
 zeros_replicate [] e = refl
 zeros_replicate (x ∷ xs) e = ap₂ ◌∷◌ (eqb-true x 0 (and_left (eqb x 0) (all_zero xs) e)) (zeros_replicate xs (and_right (eqb x 0) (all_zero xs) e))
 
@@ -124,7 +122,7 @@ unfolding if_there store_maybe store_list
 stored_some key l m z = not_none l.items ((set_rules key l).0 m).some z
 
 store_facts : (key : ℕ) (o : Option IdSet) → if_there key o ≡ true → Facts key (store_maybe o)
-unfolding if_there store_maybe empty_list all_zero
+unfolding if_there store_maybe empty_list
 store_facts key none e =
     record {
       short = omega arith;
@@ -229,24 +227,74 @@ passed P p = record { sound = λ e. p; complete = λ q. refl }
 pub fails : {a b : Bool} → a ≡ b → a ≡ false → b ≡ true → ⊥
 fails e f t = false≢true (sym f ∙ e ∙ t)
 
--- an empty list holds something exactly if it names nothing
-pub tested_empty : (key : ℕ) (l : IdList) → length l.numbers ≡ most_ids → length l.kinds ≡ most_ids → l.len ≡ 0
-    → all_zero (drop l.len l.numbers) ≡ true → all_zero (drop l.len l.kinds) ≡ true → Tested (eqb l.named 0) (Holds key l)
-tested_empty key l nl kl z zn zk =
-    record {
-      sound = λ e. holds_by key l
-          (record {
-            short = omega arith;
-            numbers_end = zn;
-            kinds_end = zk;
-            unnamed = λ q. eqb-true l.named 0 e;
-            first = λ n. absurd (n z);
-            names = λ n. absurd (n z);
-            pairs = λ n. absurd (n z);
-            differ = λ n. absurd (n z);
-          }) nl kl;
-      complete = λ h. eq-eqb _ _ ((holds_facts key l h).unnamed z);
-    }
+module _ (key : ℕ) (l : IdList) where
+  -- a list with something past its end holds nothing
+  pub tested_padding : {b : Bool} → b ≡ is_padded l → b ≡ false → Tested false (Holds key l)
+  tested_padding e f =
+      refuted _ (λ h.
+      let a = holds_facts key l h in
+      fails e f (rw (le-leb l.len most_ids a.short, a.numbers_end, a.kinds_end)))
+
+  module _ {b : Bool} (e : b ≡ is_padded l) (t : b ≡ true) (numbers_long : length l.numbers ≡ most_ids) (kinds_long : length l.kinds ≡ most_ids) where
+    is_so : is_padded l ≡ true
+    is_so = sym e ∙ t
+
+    room : leb l.len most_ids && all_zero (drop l.len l.numbers) ≡ true
+    room = and_left (leb l.len most_ids && all_zero (drop l.len l.numbers)) (all_zero (drop l.len l.kinds)) is_so
+
+    short : l.len ≤ most_ids
+    short = leb-true l.len most_ids (and_left (leb l.len most_ids) (all_zero (drop l.len l.numbers)) room)
+
+    numbers_end : all_zero (drop l.len l.numbers) ≡ true
+    numbers_end = and_right (leb l.len most_ids) (all_zero (drop l.len l.numbers)) room
+
+    kinds_end : all_zero (drop l.len l.kinds) ≡ true
+    kinds_end = and_right (leb l.len most_ids && all_zero (drop l.len l.numbers)) (all_zero (drop l.len l.kinds)) is_so
+
+    -- an empty list holds something exactly if it names nothing
+    pub tested_empty : l.len ≡ 0 → Tested (eqb l.named 0) (Holds key l)
+    tested_empty z =
+        record {
+          sound = λ e. holds_by key l
+              (record {
+                short = short;
+                numbers_end = numbers_end;
+                kinds_end = kinds_end;
+                unnamed = λ q. eqb-true l.named 0 e;
+                first = λ n. absurd (n z);
+                names = λ n. absurd (n z);
+                pairs = λ n. absurd (n z);
+                differ = λ n. absurd (n z);
+              }) numbers_long kinds_long;
+          complete = λ h. eq-eqb _ _ ((holds_facts key l h).unnamed z);
+        }
+
+    -- and another exactly if it meets the rules
+    pub tested_rules : (l.len ≡ 0 → ⊥) → Tested (meets_rules key l) (Holds key l)
+    tested_rules n =
+        record {
+          sound = λ e.
+              let ps = pairs_in l.kinds l.numbers l.len in
+              let begins = may_begin key (get_or l.kinds 0 0) in
+              let named = names_meet key l.named in
+              let within = pairs_meet (key_width key) l.named ps in
+              let three = and_left (begins && named && within) (all_differ ps) e in
+              let two = and_left (begins && named) within three in
+              holds_by key l
+              (record {
+                short = short;
+                numbers_end = numbers_end;
+                kinds_end = kinds_end;
+                unnamed = λ z. absurd (n z);
+                first = λ m. and_left begins named two;
+                names = λ m. and_right begins named two;
+                pairs = λ m. and_right (begins && named) within three;
+                differ = λ m. and_right (begins && named && within) (all_differ ps) e;
+              }) numbers_long kinds_long;
+          complete = λ h.
+              let a = holds_facts key l h in
+              rw (a.first n, a.names n, a.pairs n, a.differ n);
+        }
 
 -- ---- the arrays of a list that holds something are 128 long
 

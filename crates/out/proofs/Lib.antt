@@ -1,3 +1,4 @@
 pub mod Runs
+pub mod Pages
 pub mod Digits
 pub mod Answers

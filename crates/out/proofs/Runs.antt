@@ -1,5 +1,5 @@
 -- Laws of runs of stores into a buffer. In order: a run past the end; a run at a place that is cut to the buffer's length; one
--- run after another (`puts_then`); a run a part at a time, as loops make it (`Going`).
+-- run after another (`puts_then`).
 use Prim.Native.Nat.{ℕ, suc, ◌+◌, ◌≤◌, min}
 use native.Mathlib.Nat.{add-zero}
 use native.Mathlib.Omega.{arith}
@@ -35,10 +35,6 @@ sets_append (u ∷ us) vs l i =
 
 -- ---- writers
 
--- nothing is written
-pub puts_none : (l : List ℕ) (i j : ℕ) → j ≡ min i (length l) → Puts l i [] l j
-puts_none l i j e = record { stored = refl; after = omega arith }
-
 module _ {l : List ℕ} {i : ℕ} {us : List ℕ} {m : List ℕ} {j : ℕ} where
   pub puts_length : Puts l i us m j → length m ≡ length l
   puts_length p = ap length p.stored ∙ length-sets l i us
@@ -56,42 +52,3 @@ module _ {l : List ℕ} {i : ℕ} {us : List ℕ} {m : List ℕ} {j : ℕ} where
             ∙ ap (λ (x : List ℕ). sets x (i + length us) vs) p.stored ∙ sets_append us vs l i;
         after = omega (arith, p.after, q.after, puts_length p, length-append us vs);
       }
-
--- ---- a run a part at a time: what is left to write, from the place that is reached, makes the whole
-
-pub record Going (l : List ℕ) (i : ℕ) (us : List ℕ) (m : List ℕ) (j : ℕ) (vs : List ℕ) : Type 0 where
-  pub inside : j ≤ length l
-  pub long : length m ≡ length l
-  pub whole : sets m j vs ≡ sets l i us
-  pub last : min (j + length vs) (length l) ≡ min (i + length us) (length l)
-
-pub going_start : (l us : List ℕ) (i j : ℕ) → j ≡ min i (length l) → Going l i us l j us
-going_start l us i j e =
-    record {
-      inside = omega arith;
-      long = refl;
-      whole = ap (λ (k : ℕ). sets l k us) e ∙ sets_cut us l i;
-      last = omega arith;
-    }
-
-module _ {l : List ℕ} {i : ℕ} {us m : List ℕ} {j : ℕ} {rest : List ℕ} where
-  -- a part is written
-  pub going_on : {ws vs n : List ℕ} {k : ℕ} → rest ≡ ws ++ vs → Going l i us m j rest → Puts m j ws n k → Going l i us n k vs
-  going_on {ws} {vs} {n} {k} e g p =
-      record {
-        inside = omega (arith, p.after, g.long);
-        long = puts_length p ∙ g.long;
-        whole =
-            ap (λ (x : List ℕ). sets x k vs) p.stored
-            ∙ ap (λ (x : ℕ). sets (sets m j ws) x vs) (p.after ∙ ap (min (j + length ws)) (sym (length-sets m j ws)))
-            ∙ sets_cut vs (sets m j ws) (j + length ws) ∙ sets_append ws vs m j ∙ ap (sets m j) (sym e) ∙ g.whole;
-        last = omega (arith, p.after, g.last, g.long, ap length e, length-append ws vs);
-      }
-
-  -- where a branch left it
-  pub going_as : {m' rest' : List ℕ} {j' : ℕ} → m' ≡ m → j' ≡ j → rest ≡ rest' → Going l i us m j rest → Going l i us m' j' rest'
-  going_as p q r g = subst (λ (x : List ℕ × ℕ × List ℕ). Going l i us x.0 x.1 x.2) (λ k. (sym p k, sym q k, r k)) g
-
-  -- nothing is left
-  pub going_end : rest ≡ [] → Going l i us m j rest → Puts l i us m j
-  going_end e g = record { stored = ap (sets m j) (sym e) ∙ g.whole; after = omega (arith, g.last, g.inside, ap length e) }

@@ -1,4 +1,5 @@
 pub mod Put
+pub mod Page
 pub mod Text
 pub mod Writing
 pub mod Answer

@@ -1,76 +1,104 @@
 // Writing an output into a lent buffer: bytes, hexadecimal digits, decimal numbers, and the answer.
 // Every function is proved and none that is `pub` has a `requires`: what does not fit is not stored
-// (specs/Put.antt).
+// (specs/Page.antt).
 // A caller that must leave a short buffer alone compares its length with the output's first.
 #![tactic(auto)]
 
-ghost use Rattle.std.specs.Prelude.{◌≡◌, [], ◌∷◌, ◌≤◌, ◌<◌, ◌/◌, ◌%◌, ◌^◌, length, take};
-ghost use Rattle.rules.specs.Outcomes.{number_of};
+ghost use Rattle.std.specs.Prelude.{◌≡◌, [], ◌∷◌, ◌≤◌, ◌<◌, ◌/◌, ◌%◌, ◌^◌, min, length, take};
 ghost use Rattle.out.specs.Text.{hex_digit, hex_text, decimal};
-ghost use Rattle.out.specs.Put.{Puts};
+ghost use Rattle.out.specs.Page.{Opens, Writes};
+ghost use Rattle.out.specs.Answer.{outcome_of};
 
 use rules::Outcome;
 
-// The answer of a function that writes an output: its outcome, and how many bytes were written.
-#[derive(Clone, Copy)]
-pub struct Written {
-    pub outcome: Outcome,
-    pub size: usize,
+// Why an output was not written. A function that writes an output answers with its size, or with this.
+#[derive(Clone, Copy, PartialEq, Eq)]
+pub enum Unwritten {
+    // 9: the table breaks the table rules or has another stored form
+    WrongTable,
+    // 8: the lent buffer is shorter than the output
+    ShortBuffer,
 }
 
-// An outcome's number.
-pub fn outcome_number(outcome: Outcome) -> usize
-    ensures { result ≡ number_of outcome }
-{
-    match outcome {
-        Outcome::Done => 0,
-        Outcome::NotABlock => 1,
-        Outcome::CheckFails => 2,
-        Outcome::WrongFig => 3,
-        Outcome::WrongField => 4,
-        Outcome::WrongValue => 5,
-        Outcome::EmptyStart => 6,
-        Outcome::NotHeld => 7,
-        Outcome::ShortBuffer => 8,
-        Outcome::WrongTable => 9,
-        Outcome::NotASheet => 10,
-        Outcome::NotShown => 11,
-        Outcome::TooMuch => 12,
-        Outcome::TooManyPieces => 13,
-        Outcome::BadCode => 14,
+impl From<Unwritten> for Outcome {
+    ghost from_gives = { λ why o. o ≡ outcome_of why };
+
+    fn from(why: Unwritten) -> Outcome {
+        match why {
+            Unwritten::WrongTable => Outcome::WrongTable,
+            Unwritten::ShortBuffer => Outcome::ShortBuffer,
+        }
     }
 }
 
-// One byte at a place, and the place after it.
-pub fn put(out: &mut [u8], at: usize, b: u8) -> usize
-    ensures { Puts out.old at (b ∷ []) out.new result }
-{
-    if at < out.len() {
-        out[at] = b;
-        at + 1
-    } else {
-        out.len()
-    }
-}
-
-// Bytes at a place, and the place after them.
-pub fn put_bytes(out: &mut [u8], at: usize, bytes: &[u8]) -> usize
-    ensures { Puts out.old at bytes.now out.new result }
-{
-    let mut p = lists::least(at, out.len());
-    let mut i = 0;
-    while i < bytes.len() {
-        p = put(out, p, bytes[i]);
-        i += 1;
-    }
-    p
+// A lent buffer that is written from its front on, and the place that is reached in it. What does not fit is not stored.
+#[derive(Drop)]
+pub struct Page<'a> {
+    pub buffer: &'a mut [u8],
+    pub at: usize,
 }
 
 // What stands at the front of a buffer: its first n bytes, or all where there are fewer.
 pub fn front(bytes: &[u8], n: usize) -> &[u8]
     ensures { result.now ≡ take n bytes.now }
 {
-    if n <= bytes.len() { &bytes[..n] } else { bytes }
+    bytes.get(..n).unwrap_or(bytes)
+}
+
+impl<'a> Page<'a> {
+    // An empty page over a buffer.
+    pub fn over(buffer: &'a mut [u8]) -> Page<'a>
+        ensures over { Opens buffer.entry result }
+    {
+        Page { buffer, at: 0 }
+    }
+
+    // How many bytes were stored.
+    pub fn size(&self) -> usize
+        ensures { result ≡ min self.now.at (length self.now.buffer.now) }
+    {
+        self.at.min(self.buffer.len())
+    }
+
+    // One byte.
+    pub fn put(&mut self, byte: u8)
+        ensures { Writes self.old (byte ∷ []) self.new }
+    {
+        if self.at < self.buffer.len() {
+            self.buffer[self.at] = byte;
+            self.at += 1;
+        }
+    }
+
+    // Bytes.
+    pub fn put_bytes(&mut self, bytes: &[u8])
+        ensures { Writes self.old bytes.now self.new }
+    {
+        for byte in bytes {
+            self.put(*byte);
+        }
+    }
+
+    // The low hexadecimal digits of a number, this many.
+    pub fn put_hex(&mut self, digits: usize, n: u32)
+        ensures { Writes self.old (hex_text digits n) self.new }
+    {
+        for place in (0..digits).rev() {
+            self.put(digit_at(n, place));
+        }
+    }
+
+    // A number in decimal: the digits before the last, and the last.
+    pub fn put_decimal(&mut self, n: usize)
+        ensures { Writes self.old (decimal n) self.new }
+    {
+        if n < 10 {
+            self.put(48 + n as u8);
+        } else {
+            self.put_decimal(n / 10);
+            self.put(48 + (n % 10) as u8);
+        }
+    }
 }
 
 // ---- numbers
@@ -94,19 +122,6 @@ fn digit_at(n: u32, place: usize) -> u8
     }
 }
 
-// The low hexadecimal digits of a number at a place, this many, and the place after them.
-pub fn put_hex(out: &mut [u8], at: usize, digits: usize, n: u32) -> usize
-    ensures { Puts out.old at (hex_text digits n) out.new result }
-{
-    let mut p = lists::least(at, out.len());
-    let mut k = digits;
-    while 0 < k {
-        k -= 1;
-        p = put(out, p, digit_at(n, k));
-    }
-    p
-}
-
 // How many digits a number has in decimal.
 pub fn decimal_size(n: usize) -> usize
     ensures { (result ≡ length (decimal n)) × (result ≤ 20) }
@@ -118,16 +133,4 @@ pub fn decimal_size(n: usize) -> usize
         d += 1;
     }
     d
-}
-
-// A number in decimal at a place, and the place after it: the digits before the last, and the last.
-pub fn put_decimal(out: &mut [u8], at: usize, n: usize) -> usize
-    ensures { Puts out.old at (decimal n) out.new result }
-{
-    if n < 10 {
-        put(out, at, 48 + n as u8)
-    } else {
-        let p = put_decimal(out, at, n / 10);
-        put(out, p, 48 + (n % 10) as u8)
-    }
 }

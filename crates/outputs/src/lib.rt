@@ -5,7 +5,7 @@
 ghost use Rattle.out.specs.Answer.{Outputs};
 ghost use Rattle.outputs.specs.Output.{output_of};
 
-use out::Written;
+use out::Unwritten;
 use table::Table;
 
 // What is asked for: the sets in lines, without the numbers or with them; in columns for eyes or for a spreadsheet, of a recording
@@ -24,7 +24,12 @@ pub enum Output {
 }
 
 // Writes what is asked for of a table into a lent buffer: 9, then 8, or 0 and its size. The lines alone tell the bytes left over.
-pub fn write_output(asked: Output, table: Table, over: usize, out: &mut [u8]) -> Written
+pub fn write_output(
+    asked: Output,
+    table: Table,
+    over: usize,
+    out: &mut [u8],
+) -> Result<usize, Unwritten>
     ensures { Outputs (output_of asked over) table out.old result out.new }
 {
     match asked {

@@ -4,15 +4,14 @@
 use Prim.Native.Nat.{ℕ, ◌%◌, ◌≤◌, ◌<◌}
 use native.Mathlib.Omega.{arith}
 use mathlib.Core.Path.{◌≡◌, refl, sym, ap, ap₂, ◌∙◌, subst}
-use mathlib.Core.Bool.{true, false, ◌||◌}
+use mathlib.Core.Bool.{true, ◌||◌}
 use mathlib.Core.List.{List, [], ◌∷◌}
 use mathlib.Core.Logic.{◌⊎◌, inl, inr}
 use mathlib.Core.Option.{Option, none, some}
 use lib.ListN.{length, replicate}
 use lib.Dec.{ltb, eqb}
 use borrow.Author.Tests.{eqb-true, eqb-false, ltb-true, ltb-false}
-use Rattle.rules.specs.declared.Outcome.{Outcome}
-use Rattle.rules.specs.declared.Outcome.TheVariants.{Done, NotHeld, ShortBuffer, WrongTable, NotShown}
+use Rattle.rules.specs.declared.Outcome.TheVariants.{Done, WrongTable}
 use Rattle.rules.specs.Field.{Field}
 use Rattle.rules.specs.Family.{find, forget, drop_open}
 use Rattle.rules.specs.Collecting.{linkage, IdSet, Held, Entries, Content, with_sets, next_block, after_block, meets, most_keys}
@@ -26,10 +25,11 @@ use Rattle.lists.specs.Stored.{empty_list}
 use Rattle.table.specs.declared.Table.{Table}
 use Rattle.table.specs.declared.Forgotten.{Forgotten}
 use Rattle.table.specs.declared.Copied.{Copied}
-use Rattle.table.specs.declared.Counted.{Counted}
+use Rattle.table.specs.declared.NotCopied.{NotCopied}
+use Rattle.table.specs.declared.WrongTable as Uncounted
 use Rattle.table.specs.Stored.{table_of, store_table, Stored, stored, not_stored}
-use Rattle.table.specs.Answers.{forgotten_as, copied_as}
-use Rattle.totals.specs.Totals.{sums, totals_of, no_totals}
+use Rattle.table.specs.Answers.{no_totals_told, forgotten_as, outcome_of, copied_as}
+use Rattle.totals.specs.Totals.{sums, totals_of}
 use Rattle.totals.proofs.Laws.{shown_closed}
 use Rattle.totals.specs.declared.Totals.{Totals}
 use Rattle.sets.specs.declared.Sets.{Sets}
@@ -40,7 +40,9 @@ use Rattle.reading.specs.declared.Recorded.{Recorded}
 use Rattle.reading.specs.Steps.{store_notes, no_notes}
 use Rattle.reading.specs.Runs.{run_as, refused_table, recorded_as, unrecorded}
 use Rattle.reading.proofs.RunLaws.{no_notes_law}
-use Rattle.promises.proofs.Contracts.{ReadsBlock, ReadsRecording, Forgets, CopiesOut, Counts}
+use Rattle.std.specs.Prelude.{Result, Ok, Err}
+use Rattle.promises.proofs.Contracts.{told, ReadsBlock, ReadsRecording, Forgets, CopiesOut, Counts}
+use Rattle.promises.proofs.Single.{uncopied_done, copied_apart}
 
 -- ---- reading a block: 0 to 6, or 9
 
@@ -190,72 +192,76 @@ forget_key_refused t k r (wrong_table s o e) h = e
 
 -- ---- copying out: 0, 7, 8, 9 or 11
 
--- both buffers are as they were, and the answer says nothing but its outcome
-pub record Uncopied (ns ks : List ℕ) (r : Copied) (ms js : List ℕ) : Type 0 where
+-- both buffers are as they were, and the answer says nothing but why
+pub record Uncopied (why : NotCopied) (ns ks : List ℕ) (r : Result Copied NotCopied) (ms js : List ℕ) : Type 0 where
   pub numbers : ms ≡ ns
   pub kinds : js ≡ ks
-  pub answer : r ≡ record { outcome = r.outcome; key = 0; on = false; named = 0; confirmed = 0; count = 0 }
+  pub answer : r ≡ Err why
 
-pub data CopyAnswer (t : Table) (k : ℕ) (ns ks : List ℕ) (r : Copied) (ms js : List ℕ) : Type 0 where
+pub data CopyAnswer (t : Table) (k : ℕ) (ns ks : List ℕ) (r : Result Copied NotCopied) (ms js : List ℕ) : Type 0 where
   -- 0: the key is held, its set shown, and both buffers are long enough
   done : (c : Content) → Stores t c → (e : Held) → find linkage k c.sets ≡ some e → (l : IdSet) → e.shown ≡ some l
-      → length l.items ≤ length ns → length l.items ≤ length ks → number_of r.outcome ≡ 0 → CopyAnswer t k ns ks r ms js
+      → length l.items ≤ length ns → length l.items ≤ length ks → number_of (told outcome_of r) ≡ 0 → (s : Copied) → r ≡ Ok s → CopyAnswer t k ns ks r ms js
   -- 7, 11, 8 and 9: nothing is written
-  not_held : (c : Content) → Stores t c → find linkage k c.sets ≡ none → number_of r.outcome ≡ 7 → Uncopied ns ks r ms js → CopyAnswer t k ns ks r ms js
+  not_held : (c : Content) → Stores t c → find linkage k c.sets ≡ none → number_of (told outcome_of r) ≡ 7 → Uncopied NotCopied.NotHeld ns ks r ms js
+      → CopyAnswer t k ns ks r ms js
   not_shown : (c : Content) → Stores t c → (e : Held) → find linkage k c.sets ≡ some e → e.shown ≡ none
-      → number_of r.outcome ≡ 11 → Uncopied ns ks r ms js → CopyAnswer t k ns ks r ms js
+      → number_of (told outcome_of r) ≡ 11 → Uncopied NotCopied.NotShown ns ks r ms js → CopyAnswer t k ns ks r ms js
   short_buffer : (c : Content) → Stores t c → (e : Held) → find linkage k c.sets ≡ some e → (l : IdSet) → e.shown ≡ some l
-      → (length ns < length l.items) ⊎ (length ks < length l.items) → number_of r.outcome ≡ 8 → Uncopied ns ks r ms js → CopyAnswer t k ns ks r ms js
-  wrong_table : (Stored t → ⊥) → number_of r.outcome ≡ 9 → Uncopied ns ks r ms js → CopyAnswer t k ns ks r ms js
+      → (length ns < length l.items) ⊎ (length ks < length l.items) → number_of (told outcome_of r) ≡ 8 → Uncopied NotCopied.ShortBuffer ns ks r ms js
+      → CopyAnswer t k ns ks r ms js
+  wrong_table : (Stored t → ⊥) → number_of (told outcome_of r) ≡ 9 → Uncopied NotCopied.WrongTable ns ks r ms js → CopyAnswer t k ns ks r ms js
 
-uncopied : (o : Outcome) (ns ks : List ℕ) (r : Copied) (ms js : List ℕ) → copied_as r ms js ≡ not_copied o ns ks
-    → (number_of r.outcome ≡ number_of o) × Uncopied ns ks r ms js
+uncopied : (why : NotCopied) (ns ks : List ℕ) (r : Result Copied NotCopied) (ms js : List ℕ) → copied_as r ms js ≡ not_copied (outcome_of why) ns ks
+    → (number_of (told outcome_of r) ≡ number_of (outcome_of why)) × Uncopied why ns ks r ms js
+unfolding copied_as
+uncopied why ns ks r ms js e =
+    let a = copied_apart r (Err why) ms js ns ks e in
+    (ap (λ (x : Result Copied NotCopied). number_of (told outcome_of x)) a.0, record { numbers = a.1; kinds = a.2; answer = a.0 })
+
+-- the outcome that an answer is told by
+pub told_copied : (r : Result Copied NotCopied) (ms js : List ℕ) → (copied_as r ms js).outcome ≡ told outcome_of r
 unfolding copied_as not_copied
-uncopied o ns ks r ms js e =
-    let key = ap (λ (x : Outcomes.Copied). x.key) e in
-    let on = ap (λ (x : Outcomes.Copied). x.on) e in
-    let named = ap (λ (x : Outcomes.Copied). x.named) e in
-    let confirmed = ap (λ (x : Outcomes.Copied). x.confirmed) e in
-    let count = ap (λ (x : Outcomes.Copied). x.count) e in (
-      ap (λ (x : Outcomes.Copied). number_of x.outcome) e,
-      record {
-        numbers = ap (λ (x : Outcomes.Copied). x.numbers) e;
-        kinds = ap (λ (x : Outcomes.Copied). x.kinds) e;
-        answer = λ i. record { outcome = r.outcome; key = key i; on = on i; named = named i; confirmed = confirmed i; count = count i };
-      },
-    )
+told_copied (Ok s) ms js = refl
+told_copied (Err why) ms js = refl
 
-module _ (t : Table) (k : ℕ) (ns ks : List ℕ) (r : Copied) (ms js : List ℕ) where
+copied_done : (r : Result Copied NotCopied) → told outcome_of r ≡ Done → (s : Copied) × (r ≡ Ok s)
+copied_done (Ok s) e = (s, refl)
+copied_done (Err why) e = absurd (uncopied_done why e)
+
+module _ (t : Table) (k : ℕ) (ns ks : List ℕ) (r : Result Copied NotCopied) (ms js : List ℕ) where
   -- a shown set, with room in both buffers or not
   copied_set : (c : Content) → Stores t c → (e : Held) → find linkage k c.sets ≡ some e → (l : IdSet) → e.shown ≡ some l
       → copied_as r ms js ≡ copy_set e (some l) ns ks → CopyAnswer t k ns ks r ms js
-  unfolding copy_set number_of copied_as
+  unfolding copy_set number_of
   copied_set c s e h l g a =
       cases_bool (ltb (length ns) (length l.items) || ltb (length ks) (length l.items))
-      (λ b. let u = uncopied ShortBuffer ns ks r ms js (rw b at a) in
+      (λ b. let u = uncopied NotCopied.ShortBuffer ns ks r ms js (rw b at a) in
       short_buffer c s e h l g
       (or_cases (ltb (length ns) (length l.items)) (ltb (length ks) (length l.items)) b (λ x. inl (ltb-true _ _ x)) (λ x. inr (ltb-true _ _ x)))
       u.0 u.1)
       (λ b.
+      let o : told outcome_of r ≡ Done = sym (told_copied r ms js) ∙ ap (λ (y : Outcomes.Copied). y.outcome) (rw b at a) in
+      let z = copied_done r o in
       done c s e h l g (ltb-false _ _ (or_false_left (ltb (length ns) (length l.items)) (ltb (length ks) (length l.items)) b))
       (ltb-false _ _ (or_false_right (ltb (length ns) (length l.items)) (ltb (length ks) (length l.items)) b))
-      (ap (λ (y : Outcomes.Copied). number_of y.outcome) (rw b at a)))
+      (ap number_of o) z.0 z.1)
 
   pub copy_out_answers : CopiesOut t k ns ks r ms js → CopyAnswer t k ns ks r ms js
   unfolding copy_out copy_held copy_set number_of
   copy_out_answers (stored c f p a) =
       cases-option (find linkage k c.sets)
-      (λ h. let u = uncopied NotHeld ns ks r ms js (a ∙ ap (λ (o : Option Held). copy_held o ns ks) h) in not_held c (f, p) h u.0 u.1)
+      (λ h. let u = uncopied NotCopied.NotHeld ns ks r ms js (a ∙ ap (λ (o : Option Held). copy_held o ns ks) h) in not_held c (f, p) h u.0 u.1)
       (λ e h.
       let q : copied_as r ms js ≡ copy_set e e.shown ns ks = a ∙ ap (λ (o : Option Held). copy_held o ns ks) h in
       cases-option e.shown
-      (λ n. let u = uncopied NotShown ns ks r ms js (q ∙ ap (λ (o : Option IdSet). copy_set e o ns ks) n) in not_shown c (f, p) e h n u.0 u.1)
+      (λ n. let u = uncopied NotCopied.NotShown ns ks r ms js (q ∙ ap (λ (o : Option IdSet). copy_set e o ns ks) n) in not_shown c (f, p) e h n u.0 u.1)
       (λ l n. copied_set c (f, p) e h l n (q ∙ ap (λ (o : Option IdSet). copy_set e o ns ks) n)))
-  copy_out_answers (not_stored n a) = let u = uncopied WrongTable ns ks r ms js a in wrong_table n u.0 u.1
+  copy_out_answers (not_stored n a) = let u = uncopied NotCopied.WrongTable ns ks r ms js a in wrong_table n u.0 u.1
 
   -- a refusal leaves both buffers as they were
-  pub copy_out_refused : CopyAnswer t k ns ks r ms js → (number_of r.outcome ≡ 0 → ⊥) → (ms ≡ ns) × (js ≡ ks)
-  copy_out_refused (done c s e f l g n m o) h = absurd (h o)
+  pub copy_out_refused : CopyAnswer t k ns ks r ms js → (number_of (told outcome_of r) ≡ 0 → ⊥) → (ms ≡ ns) × (js ≡ ks)
+  copy_out_refused (done c s e f l g n m o z w) h = absurd (h o)
   copy_out_refused (not_held c s f o u) h = (u.numbers, u.kinds)
   copy_out_refused (not_shown c s e f g o u) h = (u.numbers, u.kinds)
   copy_out_refused (short_buffer c s e f l g b o u) h = (u.numbers, u.kinds)
@@ -263,13 +269,13 @@ module _ (t : Table) (k : ℕ) (ns ks : List ℕ) (r : Copied) (ms js : List ℕ
 
 -- ---- the totals: 0 or 9
 
-pub data CountAnswer (t : Table) (r : Counted) : Type 0 where
+pub data CountAnswer (t : Table) (r : Result Totals Uncounted.WrongTable) : Type 0 where
   -- 0: the sums over the sets that are shown
-  done : (c : Content) → Stores t c → number_of r.outcome ≡ 0 → r.totals ≡ totals_of c → CountAnswer t r
+  done : (c : Content) → Stores t c → number_of (told (λ why. WrongTable) r) ≡ 0 → r ≡ Ok (totals_of c) → CountAnswer t r
   -- 9: none
-  wrong_table : (Stored t → ⊥) → number_of r.outcome ≡ 9 → r.totals ≡ no_totals → CountAnswer t r
+  wrong_table : (Stored t → ⊥) → number_of (told (λ why. WrongTable) r) ≡ 9 → r ≡ Err no_totals_told → CountAnswer t r
 
-pub totals_answers : (t : Table) (r : Counted) → Counts t r → CountAnswer t r
+pub totals_answers : (t : Table) (r : Result Totals Uncounted.WrongTable) → Counts t r → CountAnswer t r
 unfolding number_of
-totals_answers t r (stored c f p a) = done c (f, p) (ap (λ (x : Counted). number_of x.outcome) a) (ap (λ (x : Counted). x.totals) a)
-totals_answers t r (not_stored n a) = wrong_table n (ap (λ (x : Counted). number_of x.outcome) a) (ap (λ (x : Counted). x.totals) a)
+totals_answers t r (stored c f p a) = done c (f, p) (ap (λ (x : Result Totals Uncounted.WrongTable). number_of (told (λ why. WrongTable) x)) a) a
+totals_answers t r (not_stored n a) = wrong_table n (ap (λ (x : Result Totals Uncounted.WrongTable). number_of (told (λ why. WrongTable) x)) a) a

@@ -26,14 +26,16 @@ use Rattle.promises.proofs.Better.{noted_shown, shown_noted}
 use Rattle.table.specs.declared.Table.{Table}
 use Rattle.table.specs.declared.Forgotten.{Forgotten}
 use Rattle.table.specs.declared.Copied.{Copied}
-use Rattle.table.specs.Answers.{forgotten_as, copied_as}
+use Rattle.table.specs.declared.NotCopied.{NotCopied}
+use Rattle.table.specs.Answers.{forgotten_as, outcome_of}
 use Rattle.table.proofs.GivenLaws.{given_content}
 use Rattle.reading.specs.declared.Answer.{Answer}
 use Rattle.reading.specs.Steps.{store_notes, noted_as}
 use Rattle.reading.specs.Runs.{run_as}
-use Rattle.promises.proofs.Contracts.{ReadsBlock, Forgets, CopiesOut}
+use Rattle.std.specs.Prelude.{Result}
+use Rattle.promises.proofs.Contracts.{told, ReadsBlock, Forgets, CopiesOut}
 use Rattle.promises.proofs.Single.{copied_apart}
-use Rattle.promises.proofs.Answers.{Stores}
+use Rattle.promises.proofs.Answers.{Stores, told_copied}
 use Rattle.promises.proofs.Calls.{Reply, number_noted, block_reply, forget_reply, OfBytes, NotedShown, reply_to, replies_to}
 use Rattle.rules.proofs.HeldKeys.{Showing}
 use Rattle.promises.proofs.Receptions.{map_at}
@@ -65,23 +67,23 @@ forget_call c k r s x =
     ((forget_keeps k c s.0, ap (λ (a : Forgotten). a.table) e), ap forget_reply e)
 
 -- copying out sees of a content what it holds of the key
-pub copy_call : {u v : Table} (k : ℕ) (c d : Content) (ns ks : List ℕ) (r q : Copied) (nr kr nq kq : List ℕ) → Stores u c → Stores v d
+pub copy_call : {u v : Table} (k : ℕ) (c d : Content) (ns ks : List ℕ) (r q : Result Copied NotCopied) (nr kr nq kq : List ℕ) → Stores u c → Stores v d
     → find linkage k c.sets ≡ find linkage k d.sets → CopiesOut u k ns ks r nr kr → CopiesOut v k ns ks q nq kq → (r ≡ q) × (nr ≡ nq) × (kr ≡ kq)
 unfolding copy_out
 copy_call k c d ns ks r q nr kr nq kq s z e x y =
     copied_apart r q nr kr nq kq (given_content c s.0 s.1 x ∙ ap (λ (o : Option Held). copy_held o ns ks) e ∙ sym (given_content d z.0 z.1 y))
 
 -- a set that is shown is copied out, where both buffers have 128 places
-pub copy_shown : {u : Table} (k : ℕ) (c : Content) (ns ks : List ℕ) (r : Copied) (nr kr : List ℕ) → Stores u c → Showing linkage (find linkage k c.sets)
-    → most_ids ≤ length ns → most_ids ≤ length ks → CopiesOut u k ns ks r nr kr → number_of r.outcome ≡ 0
-unfolding copy_out copy_held copy_set copied_as number_of
+pub copy_shown : {u : Table} (k : ℕ) (c : Content) (ns ks : List ℕ) (r : Result Copied NotCopied) (nr kr : List ℕ) → Stores u c → Showing linkage (find linkage k c.sets)
+    → most_ids ≤ length ns → most_ids ≤ length ks → CopiesOut u k ns ks r nr kr → number_of (told outcome_of r) ≡ 0
+unfolding copy_out copy_held copy_set number_of
 copy_shown k c ns ks r nr kr s x n m y =
     let meets = subst (Within EntryMeets) x.found (every_found linkage EntryMeets k c.sets ((table_meets_law c.sets).0 (sets_meet_law c s.0)).entries) in
     let short = (subst (Within (SetMeets x.held.key)) x.shown meets.1.0).short in
     let held = ap (λ (o : Option Held). copy_held o ns ks) x.found in
     let e = given_content c s.0 s.1 y ∙ held ∙ ap (λ (o : Option IdSet). copy_set x.held o ns ks) x.shown in
     let size = length x.set.items in
-    ap (λ (z : Outcomes.Copied). number_of z.outcome) (rw (le-ltb (length ns) size (omega arith), le-ltb (length ks) size (omega arith)) at e)
+    sym (ap number_of (told_copied r nr kr)) ∙ ap (λ (z : Outcomes.Copied). number_of z.outcome) (rw (le-ltb (length ns) size (omega arith), le-ltb (length ks) size (omega arith)) at e)
 
 -- ---- replies and what comes to be shown
 

@@ -10,6 +10,8 @@ use Rattle.promises.specs.Demand3.{Operation, Worse, ShowsAt, key_count}
 use Rattle.rules.proofs.Basics.{Every, every_take}
 use Rattle.table.specs.declared.Table.{Table}
 use Rattle.table.specs.declared.Copied.{Copied}
+use Rattle.table.specs.declared.NotCopied.{NotCopied}
+use Rattle.std.specs.Prelude.{Result}
 use Rattle.promises.proofs.Contracts.{CopiesOut}
 use Rattle.promises.proofs.Answers.{Stores}
 use Rattle.promises.proofs.Calls.{Reply, Calls, OfBytes, NotedShown, FieldAt, after_all}
@@ -32,7 +34,7 @@ module _ (t : Table) (c : Content) (holds : Stores t c) (better worse : List Ope
     (room : key_count c better ≤ most_keys) (bytes : Every OfBytes better) (others : Every OfBytes worse) where
   pub copied_alike : {u v : Table} {rs qs : List Reply} (i j : ℕ) (f : Field)
       → Calls t (take (suc i) better) rs u → Calls t (take (suc i) worse) qs v → NotedShown qs i j → FieldAt worse i j f
-      → (ns ks : List ℕ) (a b : Copied) (na ka nb kb : List ℕ) → CopiesOut u (key_of f) ns ks a na ka → CopiesOut v (key_of f) ns ks b nb kb
+      → (ns ks : List ℕ) (a b : Result Copied NotCopied) (na ka nb kb : List ℕ) → CopiesOut u (key_of f) ns ks a na ka → CopiesOut v (key_of f) ns ks b nb kb
       → (a ≡ b) × (na ≡ nb) × (ka ≡ kb)
   copied_alike i j f xs ys n x ns ks a b na ka nb kb =
       let ends = calls_hold c holds (every_take OfBytes (suc i) better bytes) xs in

@@ -5,7 +5,7 @@ use Prim.Native.Nat.{ℕ, ◌+◌, min}
 use mathlib.Core.Path.{◌≡◌, refl, sym, ap, ap₂, ◌∙◌}
 use mathlib.Core.List.{List, [], ◌∷◌}
 use Rattle.rules.specs.Collecting.{IdSet, Content, nothing, most_blocks}
-use Rattle.rules.specs.Outcomes.{number_of, read_block}
+use Rattle.rules.specs.Outcomes.{read_block}
 use Rattle.promises.specs.Demand3.{Operation, block, forgetting, after_one}
 use Rattle.promises.specs.Numbers.{blocks_in, LastConfirmed}
 use Rattle.rules.proofs.Basics.{Every}
@@ -15,6 +15,7 @@ use Rattle.table.specs.declared.Copied.{Copied}
 use Rattle.table.specs.Stored.{store_table, Stored, stored}
 use Rattle.table.specs.Answers.{forgotten_as}
 use Rattle.reading.specs.Runs.{run_as}
+use Rattle.std.specs.Prelude.{Ok}
 use Rattle.promises.proofs.Contracts.{ReadsBlock, Forgets, CopiesOut}
 use Rattle.promises.proofs.Answers.{Stores}
 use Rattle.promises.proofs.Calls.{Reply, Calls, ended, reads, forgets, OfBytes, after_all, replies_to}
@@ -56,7 +57,7 @@ calls_totals {u = u} {ops = ops} c s b xs = let e = (calls_hold c s b xs).0 in s
 -- And of that table a set that copy_out gives has the number of the last block at which a set of its key came to be shown, counted on from
 -- the count of the first table; or it was shown before the calls, and no set of its key came to be shown in them (document 02, R-9).
 pub calls_confirmed : {t u : Table} {ops : List Operation} {rs : List Reply} (c : Content) → Stores t c → Every OfBytes ops → Calls t ops rs u
-    → (k : ℕ) (ns ks : List ℕ) (r : Copied) (ms js : List ℕ) → CopiesOut u k ns ks r ms js → number_of r.outcome ≡ 0
+    → (k : ℕ) (ns ks : List ℕ) (r : Copied) (ms js : List ℕ) → CopiesOut u k ns ks (Ok r) ms js
     → (l : IdSet) × LastConfirmed c ops k l r.confirmed
 calls_confirmed {ops = ops} c s b xs = copied_confirmed c ops s.0 (calls_hold c s b xs).0
 

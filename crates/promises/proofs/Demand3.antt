@@ -11,7 +11,10 @@ use Rattle.promises.specs.Demand3.{Operation, Worse, key_count}
 use Rattle.rules.proofs.Basics.{Every, every_take}
 use Rattle.table.specs.declared.Table.{Table}
 use Rattle.table.specs.declared.Copied.{Copied}
-use Rattle.promises.proofs.Contracts.{CopiesOut}
+use Rattle.table.specs.declared.NotCopied.{NotCopied}
+use Rattle.table.specs.Answers.{outcome_of}
+use Rattle.std.specs.Prelude.{Result}
+use Rattle.promises.proofs.Contracts.{told, confirmed_of, CopiesOut}
 use Rattle.promises.proofs.Answers.{Stores}
 use Rattle.promises.proofs.Calls.{Reply, Calls, OfBytes, NotedShown, FieldAt, after_all}
 use Rattle.promises.proofs.CallLaws.{copy_shown, reply_shows, shows_reply}
@@ -40,7 +43,7 @@ module _ (t : Table) (c : Content) (holds : Stores t c) (better worse : List Ope
   -- field out of the table that one run left and of that which the other left gives the same answer, and the same in both buffers.
   pub better_calls_copied : {u v : Table} {rs qs : List Reply} (i j : ℕ) (f : Field)
       → Calls t (take (suc i) better) rs u → Calls t (take (suc i) worse) qs v → NotedShown qs i j → FieldAt worse i j f
-      → (ns ks : List ℕ) (a b : Copied) (na ka nb kb : List ℕ) → CopiesOut u (key_of f) ns ks a na ka → CopiesOut v (key_of f) ns ks b nb kb
+      → (ns ks : List ℕ) (a b : Result Copied NotCopied) (na ka nb kb : List ℕ) → CopiesOut u (key_of f) ns ks a na ka → CopiesOut v (key_of f) ns ks b nb kb
       → (a ≡ b) × (na ≡ nb) × (ka ≡ kb)
   better_calls_copied = copied_alike t c holds better worse lacks room bytes others
 
@@ -48,10 +51,10 @@ module _ (t : Table) (c : Content) (holds : Stores t c) (better worse : List Ope
   -- failing block is counted (document 02, R-9).
   pub better_calls_confirmed : {u v : Table} {rs qs : List Reply} (i j : ℕ) (f : Field)
       → Calls t (take (suc i) better) rs u → Calls t (take (suc i) worse) qs v → NotedShown qs i j → FieldAt worse i j f
-      → (ns ks : List ℕ) (a b : Copied) (na ka nb kb : List ℕ) → CopiesOut u (key_of f) ns ks a na ka → CopiesOut v (key_of f) ns ks b nb kb
-      → (a.confirmed ≡ b.confirmed) × (u.blocks ≡ v.blocks)
+      → (ns ks : List ℕ) (a b : Result Copied NotCopied) (na ka nb kb : List ℕ) → CopiesOut u (key_of f) ns ks a na ka → CopiesOut v (key_of f) ns ks b nb kb
+      → (confirmed_of a ≡ confirmed_of b) × (u.blocks ≡ v.blocks)
   better_calls_confirmed {u = u} {v = v} i j f xs ys n x ns ks a b na ka nb kb p q = (
-    ap (λ (y : Copied). y.confirmed) (copied_alike t c holds better worse lacks room bytes others i j f xs ys n x ns ks a b na ka nb kb p q).0,
+    ap confirmed_of (copied_alike t c holds better worse lacks room bytes others i j f xs ys n x ns ks a b na ka nb kb p q).0,
     calls_counted c holds (every_take OfBytes (suc i) better bytes) xs
         ∙ ap (λ (k : ℕ). min (t.blocks + k) most_blocks) (worse_counts (suc i) lacks)
         ∙ sym (calls_counted c holds (every_take OfBytes (suc i) worse others) ys),
@@ -61,8 +64,8 @@ module _ (t : Table) (c : Content) (holds : Stores t c) (better worse : List Ope
 -- j, copying the key of that field out into buffers of at least 128 places has outcome 0.
 pub noted_calls_copied : (t : Table) (c : Content) → Stores t c → (ops : List Operation) → Every OfBytes ops
     → {u : Table} {rs : List Reply} (i j : ℕ) (f : Field) → Calls t (take (suc i) ops) rs u → NotedShown rs i j → FieldAt ops i j f
-    → (ns ks : List ℕ) (a : Copied) (na ka : List ℕ) → most_ids ≤ length ns → most_ids ≤ length ks → CopiesOut u (key_of f) ns ks a na ka
-    → number_of a.outcome ≡ 0
+    → (ns ks : List ℕ) (a : Result Copied NotCopied) (na ka : List ℕ) → most_ids ≤ length ns → most_ids ≤ length ks → CopiesOut u (key_of f) ns ks a na ka
+    → number_of (told outcome_of a) ≡ 0
 noted_calls_copied t c holds ops bytes i j f xs n x ns ks a na ka =
     let shown = cut_shows t c holds ops bytes i j f xs n x in
     copy_shown (key_of f) (after_all c (take (suc i) ops)) ns ks a na ka shown.0 (rw shown.3 at (showing_after c ops i j shown.1 shown.2))

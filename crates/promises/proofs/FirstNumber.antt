@@ -31,10 +31,12 @@ use Rattle.table.proofs.GivenLaws.{given_content}
 use Rattle.reading.specs.declared.Answer.{Answer}
 use Rattle.reading.specs.declared.Recorded.{Recorded}
 use Rattle.reading.specs.Runs.{run_as, recorded_as}
-use Rattle.out.specs.declared.Written.{Written}
+use Rattle.std.specs.Prelude.{Result, Ok}
+use Rattle.out.specs.declared.Unwritten.{Unwritten}
 use Rattle.sheet.specs.declared.Loaded.{Loaded}
 use Rattle.sheet.specs.Loading.{Loads}
-use Rattle.promises.proofs.Contracts.{ReadsBlock, ReadsRecording, CopiesOut, WritesSheet}
+use Rattle.out.specs.Answer.{outcome_of}
+use Rattle.promises.proofs.Contracts.{told, ReadsBlock, ReadsRecording, CopiesOut, WritesSheet}
 use Rattle.promises.proofs.Answers.{Stores}
 use Rattle.promises.proofs.Buffers.{write_done}
 
@@ -61,15 +63,15 @@ module _ (k : ℕ) (tuned : oe_of k ≡ 0) (ns ks : List ℕ) where
   held_first none m z = absurd (omega arith)
   held_first (some e) m z = set_first e e.shown (rw m.0 at m.1.1.0) z
 
-  pub copy_out_first : (t : Table) (r : Copied) (ms js : List ℕ) → CopiesOut t k ns ks r ms js → number_of r.outcome ≡ 0 → get_or js 0 rds ≡ dab
+  pub copy_out_first : (t : Table) (r : Copied) (ms js : List ℕ) → CopiesOut t k ns ks (Ok r) ms js → get_or js 0 rds ≡ dab
   unfolding copy_out copied_as not_copied number_of
-  copy_out_first t r ms js (stored c m e a) z =
+  copy_out_first t r ms js (stored c m e a) =
       let entries = ((table_meets_law c.sets).0 (sets_meet_law c m)).entries in
       let found = within_if (λ (x : Held). (x.key ≡ k) × EntryMeets x) (find linkage k c.sets)
       (λ x h. (find_key linkage lawful k c.sets x h, subst (Within EntryMeets) h (every_found linkage EntryMeets k c.sets entries))) in
       ap (λ (x : Outcomes.Copied). get_or x.kinds 0 rds) a
-      ∙ held_first (find linkage k c.sets) found (sym (ap (λ (x : Outcomes.Copied). number_of x.outcome) a) ∙ z)
-  copy_out_first t r ms js (not_stored n a) z = absurd (omega (arith, ap (λ (x : Outcomes.Copied). number_of x.outcome) a, z))
+      ∙ held_first (find linkage k c.sets) found (sym (ap (λ (x : Outcomes.Copied). number_of x.outcome) a))
+  copy_out_first t r ms js (not_stored n a) = absurd (omega (arith, ap (λ (x : Outcomes.Copied). number_of x.outcome) a))
 
 -- ---- what met the rules before
 
@@ -80,8 +82,8 @@ module _ (c : Content) (m : met_before c ≡ true) where
   old_table_taken = (c, met_before_law c m, refl)
 
   -- it writes its sheet, whose definition has not moved
-  pub old_table_writes : (old : List ℕ) (r : Written) (new : List ℕ) → WritesSheet (store_table c) old r new → length (sheet c) ≤ length old
-      → (number_of r.outcome ≡ 0) × (r.size ≡ length (sheet c)) × (new ≡ overwritten (sheet c) old)
+  pub old_table_writes : (old : List ℕ) (r : Result ℕ Unwritten) (new : List ℕ) → WritesSheet (store_table c) old r new → length (sheet c) ≤ length old
+      → (number_of (told outcome_of r) ≡ 0) × (r ≡ Ok (length (sheet c))) × (new ≡ overwritten (sheet c) old)
   old_table_writes old r new w h = write_done sheet (store_table c) old r new w c (met_before_law c m) refl h
 
   -- that sheet loads, to the table that it gave; `load_sheet_writes` says that it is written again as the same bytes

@@ -35,6 +35,7 @@ use Rattle.table.specs.Answers.{copied_as, all_within}
 use Rattle.table.proofs.GivenLaws.{given_content, numbers_stored, sets_stored}
 use Rattle.sheet.specs.declared.Loaded.{Loaded}
 use Rattle.sheet.specs.Loading.{Loads}
+use Rattle.std.specs.Prelude.{Ok}
 use Rattle.promises.proofs.Contracts.{CopiesOut}
 use Rattle.promises.proofs.Answers.{Stores}
 use Rattle.promises.proofs.Better.{op_in, op_of, short_verdict, count_after, after_count, ops_of, shows_run}
@@ -112,32 +113,32 @@ last_confirmed c ops k x l m h g =
 -- ---- what copy_out gives
 
 -- of a shown set, its number
-copied_set : (e : Held) (l : IdSet) (ns ks : List ℕ) (r : Copied) (ms js : List ℕ) → copied_as r ms js ≡ copy_set e (some l) ns ks → number_of r.outcome ≡ 0
+copied_set : (e : Held) (l : IdSet) (ns ks : List ℕ) (r : Copied) (ms js : List ℕ) → copied_as (Ok r) ms js ≡ copy_set e (some l) ns ks
     → r.confirmed ≡ e.stamp
 unfolding copied_as copy_set not_copied number_of
-copied_set e l ns ks r ms js a o =
+copied_set e l ns ks r ms js a =
     cases_bool (ltb (length ns) (length l.items) || ltb (length ks) (length l.items))
-    (λ b. absurd (omega (arith, o, ap (λ (x : Outcomes.Copied). number_of x.outcome) (rw b at a))))
+    (λ b. absurd (omega (arith, ap (λ (x : Outcomes.Copied). number_of x.outcome) (rw b at a))))
     (λ b. ap (λ (x : Outcomes.Copied). x.confirmed) (rw b at a))
 
-copied_held : (c : Content) (k : ℕ) (ns ks : List ℕ) (r : Copied) (ms js : List ℕ) → copied_as r ms js ≡ copy_out k c ns ks → number_of r.outcome ≡ 0
+copied_held : (c : Content) (k : ℕ) (ns ks : List ℕ) (r : Copied) (ms js : List ℕ) → copied_as (Ok r) ms js ≡ copy_out k c ns ks
     → (x : Held) × (l : IdSet) × (find linkage k c.sets ≡ some x) × (x.shown ≡ some l) × (r.confirmed ≡ x.stamp)
 unfolding copied_as copy_out copy_held copy_set not_copied number_of
-copied_held c k ns ks r ms js a o =
+copied_held c k ns ks r ms js a =
     cases-option (find linkage k c.sets)
-    (λ n. absurd (omega (arith, o, ap (λ (y : Outcomes.Copied). number_of y.outcome) (a ∙ ap (λ (f : Option Held). copy_held f ns ks) n))))
+    (λ n. absurd (omega (arith, ap (λ (y : Outcomes.Copied). number_of y.outcome) (a ∙ ap (λ (f : Option Held). copy_held f ns ks) n))))
     (λ x n.
     let b = a ∙ ap (λ (f : Option Held). copy_held f ns ks) n in
     cases-option x.shown
-    (λ u. absurd (omega (arith, o, ap (λ (y : Outcomes.Copied). number_of y.outcome) (b ∙ ap (λ (f : Option IdSet). copy_set x f ns ks) u))))
-    (λ l u. (x, l, n, u, copied_set x l ns ks r ms js (b ∙ ap (λ (f : Option IdSet). copy_set x f ns ks) u) o)))
+    (λ u. absurd (omega (arith, ap (λ (y : Outcomes.Copied). number_of y.outcome) (b ∙ ap (λ (f : Option IdSet). copy_set x f ns ks) u))))
+    (λ l u. (x, l, n, u, copied_set x l ns ks r ms js (b ∙ ap (λ (f : Option IdSet). copy_set x f ns ks) u))))
 
 -- of a table in which calls ended: the set that it gives, and the number, are from where the definition says
 pub copied_confirmed : {u : Table} (c : Content) (ops : List Operation) → meets c ≡ true → Stores u (after_all c ops)
-    → (k : ℕ) (ns ks : List ℕ) (r : Copied) (ms js : List ℕ) → CopiesOut u k ns ks r ms js → number_of r.outcome ≡ 0
+    → (k : ℕ) (ns ks : List ℕ) (r : Copied) (ms js : List ℕ) → CopiesOut u k ns ks (Ok r) ms js
     → (l : IdSet) × LastConfirmed c ops k l r.confirmed
-copied_confirmed c ops m s k ns ks r ms js x o =
-    let d = copied_held (after_all c ops) k ns ks r ms js (given_content (after_all c ops) s.0 s.1 x) o in
+copied_confirmed c ops m s k ns ks r ms js x =
+    let d = copied_held (after_all c ops) k ns ks r ms js (given_content (after_all c ops) s.0 s.1 x) in
     (d.1, subst (LastConfirmed c ops k d.1) (sym d.4) (last_confirmed c ops k d.0 d.1 m d.2 d.3))
 
 -- of a reception from the empty table the set came to be shown in it
@@ -165,7 +166,6 @@ worse_numbers n i r = ap (λ (k : ℕ). min (n + k) most_blocks) (worse_counts (
 -- ---- a table's numbers
 
 all_within_at : (n : ℕ) (xs : List ℕ) (i : ℕ) → all_within n xs ≡ true → get_or xs i 0 ≤ n
-unfolding all_within
 all_within_at n [] i h = omega arith
 all_within_at n (x ∷ xs) zero h = leb-true x n (and_left (leb x n) (all_within n xs) h)
 all_within_at n (x ∷ xs) (suc i) h = all_within_at n xs i (and_right (leb x n) (all_within n xs) h)

@@ -8,48 +8,44 @@ use mathlib.Core.List.{List, ◌++◌}
 use lib.ListN.{length, drop}
 use lib.Dec.{ltb}
 use borrow.Author.Tests.{ltb-true, ltb-false}
-use Rattle.rules.specs.declared.Outcome.{Outcome}
-use Rattle.rules.specs.declared.Outcome.TheVariants.{Done, ShortBuffer, WrongTable}
 use Rattle.rules.specs.Collecting.{Content, nothing, meets}
 use Rattle.rules.specs.Outcomes.{number_of, overwritten}
 use Rattle.out.specs.Writing.{written_to}
-use Rattle.out.specs.Writing as Writing
 use Rattle.layout.specs.Sheet.{sheet, just_shown, Load, accepted, not_a_sheet}
 use Rattle.rules.proofs.Basics.{cases_bool}
 use Rattle.table.specs.declared.Table.{Table}
 use Rattle.table.specs.Stored.{store_table, Stored, stored, not_stored}
-use Rattle.out.specs.declared.Written.{Written}
-use Rattle.out.specs.Answer.{written_as, Outputs}
+use Rattle.std.specs.Prelude.{Result, Ok, Err}
+use Rattle.out.specs.declared.Unwritten.{Unwritten}
+use Rattle.out.specs.declared.Unwritten.TheVariants.{WrongTable, ShortBuffer}
+use Rattle.out.specs.Answer.{outcome_of, written_as, Outputs}
 use Rattle.sheet.specs.declared.Loaded.{Loaded}
 use Rattle.sheet.specs.Loading.{Loads}
+use Rattle.promises.proofs.Contracts.{told}
+use Rattle.promises.proofs.Single.{written_apart}
 
 -- the parts of an answer and its buffer
-pub written_is : (r : Written) (new : List ℕ) (o : Outcome) (n : ℕ) (b : List ℕ) → written_as r new ≡ record { outcome = o; size = n; buffer = b }
-    → (number_of r.outcome ≡ number_of o) × (r.size ≡ n) × (new ≡ b)
-unfolding written_as
-written_is r new o n b e = (
-  ap (λ (w : Writing.Written). number_of w.outcome) e,
-  ap (λ (w : Writing.Written). w.size) e,
-  ap (λ (w : Writing.Written). w.buffer) e,
-)
+pub written_is : (r q : Result ℕ Unwritten) (new b : List ℕ) → written_as r new ≡ written_as q b
+    → (number_of (told outcome_of r) ≡ number_of (told outcome_of q)) × (r ≡ q) × (new ≡ b)
+written_is r q new b e = let a = written_apart r q new b e in (ap (λ (x : Result ℕ Unwritten). number_of (told outcome_of x)) a.0, a.0, a.1)
 
-module _ (F : Content → List ℕ) (t : Table) (old : List ℕ) (r : Written) (new : List ℕ) where
+module _ (F : Content → List ℕ) (t : Table) (old : List ℕ) (r : Result ℕ Unwritten) (new : List ℕ) where
   pub data WriteAnswer : Type 0 where
     -- 0: all of the output, and past it the buffer as it was
     written : (c : Content) → meets c ≡ true → t ≡ store_table c → length (F c) ≤ length old
-        → number_of r.outcome ≡ 0 → r.size ≡ length (F c) → new ≡ F c ++ drop (length (F c)) old → WriteAnswer
+        → number_of (told outcome_of r) ≡ 0 → r ≡ Ok (length (F c)) → new ≡ F c ++ drop (length (F c)) old → WriteAnswer
     -- 8 and 9: nothing
     too_short : (c : Content) → meets c ≡ true → t ≡ store_table c → length old < length (F c)
-        → number_of r.outcome ≡ 8 → r.size ≡ 0 → new ≡ old → WriteAnswer
-    no_table : (Stored t → ⊥) → number_of r.outcome ≡ 9 → r.size ≡ 0 → new ≡ old → WriteAnswer
+        → number_of (told outcome_of r) ≡ 8 → r ≡ Err ShortBuffer → new ≡ old → WriteAnswer
+    no_table : (Stored t → ⊥) → number_of (told outcome_of r) ≡ 9 → r ≡ Err WrongTable → new ≡ old → WriteAnswer
 
   pub write_answers : Outputs F t old r new → WriteAnswer
-  unfolding written_to overwritten number_of
+  unfolding written_as written_to overwritten number_of
   write_answers (stored c m e p) =
       cases_bool (ltb (length old) (length (F c)))
-      (λ h. let q = written_is r new ShortBuffer 0 old (p ∙ rw h) in too_short c m e (ltb-true _ _ h) q.0 q.1 q.2)
-      (λ h. let q = written_is r new Done (length (F c)) (F c ++ drop (length (F c)) old) (p ∙ rw h) in written c m e (ltb-false _ _ h) q.0 q.1 q.2)
-  write_answers (not_stored n p) = let q = written_is r new WrongTable 0 old p in no_table n q.0 q.1 q.2
+      (λ h. let q = written_is r (Err ShortBuffer) new old (p ∙ rw h) in too_short c m e (ltb-true _ _ h) q.0 q.1 q.2)
+      (λ h. let q = written_is r (Ok (length (F c))) new (F c ++ drop (length (F c)) old) (p ∙ rw h) in written c m e (ltb-false _ _ h) q.0 q.1 q.2)
+  write_answers (not_stored n p) = let q = written_is r (Err WrongTable) new old p in no_table n q.0 q.1 q.2
 
 pub data LoadAnswer (bytes : List ℕ) (r : Loaded) : Type 0 where
   -- 0: some table writes these bytes; what it shows is held

@@ -16,16 +16,12 @@ pub struct FigReader<'a> {
 }
 
 // The place after what was found at a place.
+#[tactic(auto, unfolding(crate::specs::Reader::place_after))]
 fn place_after(at: usize, found: FigStep) -> usize
     ensures { result ≡ place_after at found }
 {
     match found {
-        FigStep::Fig {
-            kind: _,
-            start: _,
-            end: _,
-            next,
-        } => next.at,
+        FigStep::Fig { next, .. } => next.at,
         FigStep::End => at,
         FigStep::Wrong => at,
     }

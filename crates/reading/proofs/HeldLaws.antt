@@ -17,9 +17,11 @@ use Rattle.field.specs.declared.FieldStep.TheVariants.{Found}
 use Rattle.field.specs.FieldStep.{field_step_at, meaning, has_list_in, continues}
 use Rattle.field.proofs.Laws.{InBody, field_step_at_range, has_list_means, is_continuation_means}
 use Rattle.lists.specs.declared.IdList.{IdList}
-use Rattle.lists.specs.declared.Grown.{Grown}
+use Rattle.std.specs.Prelude as Rust
+use Rattle.std.specs.Prelude.{unwrap_or}
+use Rattle.std.specs.Option.{is_some}
 use Rattle.lists.specs.Stored.{store_list, empty_list, store_maybe}
-use Rattle.lists.specs.Grown.{with_field, grown_as}
+use Rattle.lists.specs.Grown.{with_field}
 use Rattle.lists.proofs.StoredLaws.{stored_some}
 use Rattle.lists.proofs.GrownLaws.{with_store, with_none}
 use Rattle.reading.specs.Steps.{ListStep, is_showing, stepped_as}
@@ -52,14 +54,14 @@ module _ (body : List ℕ) (f : Field) (r : InBody body f) (q : f.qualifier ≡ 
   longer : IdSet → IdSet
   longer d = extended linkage d (brings (meaning body f))
 
-  grown_fits : (d : IdSet) (g : Grown) → length d.items ≤ most_ids → g ≡ with_field (store_list d) body f → leb (length (longer d).items) most_ids ≡ true
-      → g ≡ record { fits = true; list = store_list (longer d) }
-  unfolding longer grown_as
+  grown_fits : (d : IdSet) (g : Rust.Option IdList) → length d.items ≤ most_ids → g ≡ with_field (store_list d) body f → leb (length (longer d).items) most_ids ≡ true
+      → g ≡ Rust.Some (store_list (longer d))
+  unfolding longer
   grown_fits d g h w l = w ∙ with_store body f r q d h ∙ rw l
 
-  grown_not : (d : IdSet) (g : Grown) → length d.items ≤ most_ids → g ≡ with_field (store_list d) body f → leb (length (longer d).items) most_ids ≡ false
-      → g ≡ record { fits = false; list = empty_list }
-  unfolding longer grown_as
+  grown_not : (d : IdSet) (g : Rust.Option IdList) → length d.items ≤ most_ids → g ≡ with_field (store_list d) body f → leb (length (longer d).items) most_ids ≡ false
+      → g ≡ Rust.None
+  unfolding longer
   grown_not d g h w l = w ∙ with_store body f r q d h ∙ rw l
 
   continued_fits : (d : IdSet) → leb (length (longer d).items) most_ids ≡ true
@@ -76,36 +78,36 @@ module _ (body : List ℕ) (f : Field) (r : InBody body f) (q : f.qualifier ≡ 
   unfolding if_there
   short d m = ((set_rules k d).0 m).short
 
-  more_fits : (o : Option IdSet) (g : Grown) → if_there k o ≡ true → ((store_maybe o).len ≡ 0 → ⊥) → g ≡ with_field (store_maybe o) body f → g.fits ≡ true
-      → record { shows = false; draft = g.list; note = Added } ≡ stepped_as (continued linkage e s (brings (meaning body f)) o)
+  more_fits : (o : Option IdSet) (g : Rust.Option IdList) → if_there k o ≡ true → ((store_maybe o).len ≡ 0 → ⊥) → g ≡ with_field (store_maybe o) body f → is_some g ≡ true
+      → record { shows = false; draft = unwrap_or g empty_list; note = Added } ≡ stepped_as (continued linkage e s (brings (meaning body f)) o)
   unfolding store_maybe empty_list
   more_fits none g m n w t = absurd (n refl)
   more_fits (some d) g m n w t =
       cases_bool (leb (length (longer d).items) most_ids)
-      (λ l. ap (λ (x : Grown). record { shows = false; draft = x.list; note = Added }) (grown_fits d g (short d m) w l) ∙ continued_fits d l)
-      (λ l. absurd (false≢true (sym (ap (λ (x : Grown). x.fits) (grown_not d g (short d m) w l)) ∙ t)))
+      (λ l. ap (λ (x : Rust.Option IdList). record { shows = false; draft = unwrap_or x empty_list; note = Added }) (grown_fits d g (short d m) w l) ∙ continued_fits d l)
+      (λ l. absurd (false≢true (sym (ap is_some (grown_not d g (short d m) w l)) ∙ t)))
 
-  more_not : (o : Option IdSet) (g : Grown) → if_there k o ≡ true → ((store_maybe o).len ≡ 0 → ⊥) → g ≡ with_field (store_maybe o) body f → g.fits ≡ false
-      → record { shows = false; draft = g.list; note = TooLong } ≡ stepped_as (continued linkage e s (brings (meaning body f)) o)
+  more_not : (o : Option IdSet) (g : Rust.Option IdList) → if_there k o ≡ true → ((store_maybe o).len ≡ 0 → ⊥) → g ≡ with_field (store_maybe o) body f → is_some g ≡ false
+      → record { shows = false; draft = unwrap_or g empty_list; note = TooLong } ≡ stepped_as (continued linkage e s (brings (meaning body f)) o)
   unfolding store_maybe empty_list
   more_not none g m n w t = absurd (n refl)
   more_not (some d) g m n w t =
       cases_bool (leb (length (longer d).items) most_ids)
-      (λ l. absurd (true≢false (sym (ap (λ (x : Grown). x.fits) (grown_fits d g (short d m) w l)) ∙ t)))
-      (λ l. ap (λ (x : Grown). record { shows = false; draft = x.list; note = TooLong }) (grown_not d g (short d m) w l) ∙ continued_not d l)
+      (λ l. absurd (true≢false (sym (ap is_some (grown_fits d g (short d m) w l)) ∙ t)))
+      (λ l. ap (λ (x : Rust.Option IdList). record { shows = false; draft = unwrap_or x empty_list; note = TooLong }) (grown_not d g (short d m) w l) ∙ continued_not d l)
 
   -- a start, with the new list as it is stored
-  start_none : (o : Option IdSet) (g : Grown) → if_there k o ≡ true → (store_maybe o).len ≡ 0 → g ≡ with_field empty_list body f
-      → record { shows = false; draft = g.list; note = Opened } ≡ stepped_as (started linkage e s block (brings (meaning body f)) o)
+  start_none : (o : Option IdSet) (g : Rust.Option IdList) → if_there k o ≡ true → (store_maybe o).len ≡ 0 → g ≡ with_field empty_list body f
+      → record { shows = false; draft = unwrap_or g empty_list; note = Opened } ≡ stepped_as (started linkage e s block (brings (meaning body f)) o)
   unfolding started entry_with stepped_as is_showing store_maybe
-  start_none none g m z w = ap (λ (x : Grown). record { shows = false; draft = x.list; note = Opened }) (w ∙ with_none body f r q)
+  start_none none g m z w = ap (λ (x : Rust.Option IdList). record { shows = false; draft = unwrap_or x empty_list; note = Opened }) (w ∙ with_none body f r q)
   start_none (some d) g m z w = absurd (stored_some k d m z)
 
-  start_some : (o : Option IdSet) (g : Grown) → ((store_maybe o).len ≡ 0 → ⊥) → g ≡ with_field empty_list body f
-      → record { shows = true; draft = g.list; note = ShownAndOpened } ≡ stepped_as (started linkage e s block (brings (meaning body f)) o)
+  start_some : (o : Option IdSet) (g : Rust.Option IdList) → ((store_maybe o).len ≡ 0 → ⊥) → g ≡ with_field empty_list body f
+      → record { shows = true; draft = unwrap_or g empty_list; note = ShownAndOpened } ≡ stepped_as (started linkage e s block (brings (meaning body f)) o)
   unfolding started entry_with stepped_as is_showing store_maybe empty_list
   start_some none g n w = absurd (n refl)
-  start_some (some d) g n w = ap (λ (x : Grown). record { shows = true; draft = x.list; note = ShownAndOpened }) (w ∙ with_none body f r q)
+  start_some (some d) g n w = ap (λ (x : Rust.Option IdList). record { shows = true; draft = unwrap_or x empty_list; note = ShownAndOpened }) (w ∙ with_none body f r q)
 
 -- ---- the field's step, as the code takes it
 
@@ -132,30 +134,30 @@ module _ (body : List ℕ) (f : Field) (bytes : (i : ℕ) → get_or body i 0 < 
       by_act (continuation (brings (meaning body f))) _ (act_more body f h c)
       ((λ i. record { shows = false; draft = ed i; note = NoOpenList }) ∙ more_none body f inside q e s block e.key e.draft m (sym len_is ∙ z))
 
-  module _ (g : Grown) where
-    pub step_added : has_list_in f ≡ true → continues f ≡ true → (draft.len ≡ 0 → ⊥) → g ≡ with_field draft body f → g.fits ≡ true
-        → record { shows = false; draft = g.list; note = Added } ≡ stepped_as (on_held linkage e s block (act_of (meaning body f)))
+  module _ (g : Rust.Option IdList) where
+    pub step_added : has_list_in f ≡ true → continues f ≡ true → (draft.len ≡ 0 → ⊥) → g ≡ with_field draft body f → is_some g ≡ true
+        → record { shows = false; draft = unwrap_or g empty_list; note = Added } ≡ stepped_as (on_held linkage e s block (act_of (meaning body f)))
     unfolding on_held
     step_added h c n w t =
         by_act (continuation (brings (meaning body f))) _ (act_more body f h c)
         (more_fits body f inside q e s block e.key e.draft g m (λ z. n (len_is ∙ z)) (w ∙ ap (λ (l : IdList). with_field l body f) ed) t)
 
-    pub step_long : has_list_in f ≡ true → continues f ≡ true → (draft.len ≡ 0 → ⊥) → g ≡ with_field draft body f → g.fits ≡ false
-        → record { shows = false; draft = g.list; note = TooLong } ≡ stepped_as (on_held linkage e s block (act_of (meaning body f)))
+    pub step_long : has_list_in f ≡ true → continues f ≡ true → (draft.len ≡ 0 → ⊥) → g ≡ with_field draft body f → is_some g ≡ false
+        → record { shows = false; draft = unwrap_or g empty_list; note = TooLong } ≡ stepped_as (on_held linkage e s block (act_of (meaning body f)))
     unfolding on_held
     step_long h c n w t =
         by_act (continuation (brings (meaning body f))) _ (act_more body f h c)
         (more_not body f inside q e s block e.key e.draft g m (λ z. n (len_is ∙ z)) (w ∙ ap (λ (l : IdList). with_field l body f) ed) t)
 
     pub step_opened : has_list_in f ≡ true → continues f ≡ false → draft.len ≡ 0 → (l : IdList) → l ≡ empty_list → g ≡ with_field l body f
-        → record { shows = false; draft = g.list; note = Opened } ≡ stepped_as (on_held linkage e s block (act_of (meaning body f)))
+        → record { shows = false; draft = unwrap_or g empty_list; note = Opened } ≡ stepped_as (on_held linkage e s block (act_of (meaning body f)))
     unfolding on_held
     step_opened h c z l p w =
         by_act (start (brings (meaning body f))) _ (act_start body f h c)
         (start_none body f inside q e s block e.key e.draft g m (sym len_is ∙ z) (w ∙ ap (λ (x : IdList). with_field x body f) p))
 
     pub step_shown : has_list_in f ≡ true → continues f ≡ false → (draft.len ≡ 0 → ⊥) → (l : IdList) → l ≡ empty_list → g ≡ with_field l body f
-        → record { shows = true; draft = g.list; note = ShownAndOpened } ≡ stepped_as (on_held linkage e s block (act_of (meaning body f)))
+        → record { shows = true; draft = unwrap_or g empty_list; note = ShownAndOpened } ≡ stepped_as (on_held linkage e s block (act_of (meaning body f)))
     unfolding on_held
     step_shown h c n l p w =
         by_act (start (brings (meaning body f))) _ (act_start body f h c)

@@ -6,3 +6,4 @@ pub mod RowLaws
 pub mod GatheredLaws
 pub mod HeldRows
 pub mod RunRows
+pub mod SameLaws

@@ -6,7 +6,7 @@ use native.Mathlib.Omega.{arith}
 use mathlib.Core.Path.{◌≡◌, refl, sym, ap, ◌∙◌}
 use mathlib.Core.Bool.{Bool, true, false}
 use mathlib.Core.List.{List, [], ◌∷◌, ◌++◌}
-use mathlib.Core.Option.{Option, none, some}
+use Rattle.std.specs.Prelude as Rust
 use lib.ListN.{length, set, take, drop, replicate}
 use lib.Seq.{length-take-le, take-suc-set, take_all, take_at}
 use borrow.Author.Tests.{ltb-true, ltb-false}
@@ -23,7 +23,7 @@ use Rattle.field.specs.declared.Identifier.{Identifier}
 use Rattle.field.specs.FieldStep.{identifier_at, pair_of}
 use Rattle.lists.specs.declared.IdList.{IdList}
 use Rattle.lists.specs.Stored.{paired, pairs_in, empty_list}
-use Rattle.lists.specs.Grown.{put, grown, grown_as, field_pairs, renamed, with_field}
+use Rattle.lists.specs.Grown.{put, grown, field_pairs, renamed, with_field}
 use Rattle.lists.proofs.GrownLaws.{grown_there, grown_put, grown_full, grown_end, with_field_is}
 use Rattle.reading.specs.declared.rows.Row.{Row}
 use Rattle.reading.specs.Gathered.{row_list, packed, appended_as}
@@ -63,11 +63,11 @@ module _ (ns ks : List ℕ) (len named : ℕ) (hn : length ns ≡ most_ids) (hk 
 
 module _ (body : List ℕ) (f : Field) (count i : ℕ) (ns ks : List ℕ) (len named : ℕ) (hn : length ns ≡ most_ids) (hk : length ks ≡ most_ids) (hl : len ≤ most_ids)
     (id : Identifier) (k n : ℕ) (e : id ≡ identifier_at body f i) (p : k ≡ (pair_of id).kind) (q : n ≡ (pair_of id).number)
-    (b : Bool) (m : b ≡ member linkage (pair k n) (drop 0 (pairs_in ks ns len))) where
+    (b : Bool) (m : b ≡ member linkage (pair k n) (pairs_in ks ns len)) where
   abbrev row' : IdList
   row' = row_list ns ks (row_of len named)
 
-  stands : b ≡ member linkage (pair k n) (drop 0 (pairs_in row'.kinds row'.numbers len))
+  stands : b ≡ member linkage (pair k n) (pairs_in row'.kinds row'.numbers len)
   stands = m ∙ ap (member linkage (pair k n)) (sym (row_pairs ns ks len named hn hk hl))
 
   pub row_there : b ≡ true → i < count → grown row' (field_pairs body f (i + 1) (count - (i + 1))) ≡ grown row' (field_pairs body f i (count - i))
@@ -81,12 +81,12 @@ module _ (body : List ℕ) (f : Field) (count i : ℕ) (ns ks : List ℕ) (len n
       ap (λ (l : IdList). grown l (field_pairs body f (i + 1) (count - (i + 1)))) (sym (row_put ns ks len named hn hk (pair k n) g))
       ∙ grown_put body f count i row' id k n e p q b stands t h g
 
-  pub row_full : b ≡ false → i < count → most_ids ≤ len → grown row' (field_pairs body f i (count - i)) ≡ none
+  pub row_full : b ≡ false → i < count → most_ids ≤ len → grown row' (field_pairs body f i (count - i)) ≡ Rust.None
   unfolding row_list
   row_full t h g = grown_full body f count i row' id k n e p q b stands t h g
 
 -- the row at the end of a turn
-pub row_from : {ns ns' ks ks' : List ℕ} {len len' : ℕ} (named : ℕ) (ps : List Pair) (g : Option IdList) → ns ≡ ns' → ks ≡ ks' → len ≡ len'
+pub row_from : {ns ns' ks ks' : List ℕ} {len len' : ℕ} (named : ℕ) (ps : List Pair) (g : Rust.Option IdList) → ns ≡ ns' → ks ≡ ks' → len ≡ len'
     → grown (row_list ns' ks' (row_of len' named)) ps ≡ g → grown (row_list ns ks (row_of len named)) ps ≡ g
 row_from named ps g a b e h = (λ i. grown (row_list (a i) (b i) (row_of (e i) named)) ps) ∙ h
 
@@ -94,15 +94,15 @@ row_from named ps g a b e h = (λ i. grown (row_list (a i) (b i) (row_of (e i) n
 module _ (body : List ℕ) (f : Field) (ns ks : List ℕ) (r : Row) (named m : ℕ) (p : m ≡ named_by f.qualifier) (q : named ≡ join_names r.named m) where
   pub append_fits : (i len : ℕ) (ns' ks' : List ℕ)
       → grown (row_list ns' ks' (row_of len named)) (field_pairs body f i (f.count - i)) ≡ grown (row_list ns ks (row_of r.len named)) (field_pairs body f 0 f.count)
-      → f.count ≤ i → appended_as (record { row = row_of len named; fits = true }) ns' ks' ≡ with_field (row_list ns ks r) body f
-  unfolding appended_as grown_as renamed row_list
+      → f.count ≤ i → appended_as (Rust.Some (row_of len named)) ns' ks' ≡ with_field (row_list ns ks r) body f
+  unfolding appended_as renamed row_list
   append_fits i len ns' ks' e h =
-      with_field_is (row_list ns ks r) body f named m (some (row_list ns' ks' (row_of len named))) p q (sym e ∙ grown_end body f f.count i (row_list ns' ks' (row_of len named)) h)
+      with_field_is (row_list ns ks r) body f named m (Rust.Some (row_list ns' ks' (row_of len named))) p q (sym e ∙ grown_end body f f.count i (row_list ns' ks' (row_of len named)) h)
 
-  pub append_not : (ns' ks' : List ℕ) → none ≡ grown (row_list ns ks (row_of r.len named)) (field_pairs body f 0 f.count)
-      → appended_as (record { row = row_of 0 0; fits = false }) ns' ks' ≡ with_field (row_list ns ks r) body f
-  unfolding appended_as grown_as renamed row_list empty_list padded
-  append_not ns' ks' e = with_field_is (row_list ns ks r) body f named m none p q (sym e)
+  pub append_not : (ns' ks' : List ℕ) → Rust.None ≡ grown (row_list ns ks (row_of r.len named)) (field_pairs body f 0 f.count)
+      → appended_as Rust.None ns' ks' ≡ with_field (row_list ns ks r) body f
+  unfolding appended_as renamed row_list empty_list padded
+  append_not ns' ks' e = with_field_is (row_list ns ks r) body f named m Rust.None p q (sym e)
 
 -- ---- a row copied
 

@@ -1,10 +1,9 @@
--- The loop that reads blocks, with the lists in rows: what it keeps (`Kept`), and its turns. Each is a turn of Turns.antt on the table of
--- the rows. In order: what a table lays out and gathers again; the first turn; a field of a held key, of a new key, one that changes
--- nothing; a block; the end.
+-- A table on the desk: what the loops that read blocks keep (`Kept`, `Between`), and their turns, by those of Turns.antt. In order: what
+-- a table lays out and gathers again; a field of a held key, of a new key, one that changes nothing; the turns of both loops.
 use Prim.Native.Nat.{ℕ, zero, suc, ◌+◌, ◌-◌, ◌*◌, ◌<◌, ◌≤◌, min}
 use native.Mathlib.Omega.{arith}
-use mathlib.Core.Path.{◌≡◌, refl, sym, ap, ap₂, ◌∙◌, subst}
-use mathlib.Core.Bool.{Bool, true, false, cond, ◌&&◌}
+use mathlib.Core.Path.{◌≡◌, refl, sym, ap, ap₂, ◌∙◌, subst, subst₂}
+use mathlib.Core.Bool.{true, false, cond, ◌&&◌}
 use mathlib.Core.List.{List, [], ◌∷◌, ◌++◌, map, map-append}
 use mathlib.Core.Option.{Option, none, some}
 use lib.ListN.{length, get_or, set, take, drop, replicate, length-map, length-set}
@@ -12,14 +11,15 @@ use lib.Dec.{ltb, eqb}
 use Rattle.rules.specs.Arrays.{padded}
 use Rattle.rules.specs.declared.Note.{Note}
 use Rattle.rules.specs.declared.Note.TheVariants.{Opened}
-use Rattle.rules.specs.Collecting.{IdSet, Held, Entries, sets_meet, entries_meet, entry_meets, if_there, next_block, most_keys, most_ids}
+use Rattle.rules.specs.Collecting.{linkage, with_sets, said, IdSet, Held, Entries, sets_meet, entries_meet, entry_meets, if_there, next_block, most_keys, most_ids}
 use Rattle.rules.specs.Field.{number_in, kind_in}
+use Rattle.rules.specs.Family.{step as rule_step}
 use Rattle.rules.specs.Outcomes.{verdict}
 use Rattle.rules.proofs.Basics.{and_left, and_right, get_d_map}
 use Rattle.rules.proofs.Arrays.{take_padded}
 use Rattle.rules.proofs.TableRules.{table_rules, sets_meet_law, entry_rules, set_rules}
 use Rattle.field.specs.declared.Field.{Field}
-use Rattle.field.specs.FieldStep.{key_in}
+use Rattle.field.specs.FieldStep.{key_in, meaning}
 use Rattle.lists.specs.declared.IdList.{IdList}
 use Rattle.lists.specs.Stored.{store_list, empty_list, store_maybe}
 use Rattle.lists.specs.Grown.{with_field}
@@ -31,19 +31,24 @@ use Rattle.totals.specs.declared.Totals.{Totals}
 use Rattle.totals.specs.Kept.{exchanged_set}
 use Rattle.sets.specs.Places.{place_in}
 use Rattle.block.specs.declared.Spots.{Spots}
-use Rattle.block.specs.declared.Judged.{Judged}
-use Rattle.block.specs.Judged.{field_in, no_spot, no_spots}
+use Rattle.std.specs.Prelude.{Ok, Err, unwrap_or}
+use Rattle.rules.specs.declared.Outcome.TheVariants.{Done}
+use Rattle.block.specs.declared.Refused.{Refused}
+use Rattle.block.specs.Judged.{field_in, no_spot, no_spots, outcome_of}
 use Rattle.block.proofs.Meaning.{body_at, JudgedAs}
 use Rattle.reading.specs.declared.Reply.{Reply}
+use Rattle.reading.specs.declared.Desk.{Desk}
+use Rattle.reading.specs.declared.rows.Column.{Column}
 use Rattle.reading.specs.declared.rows.Row.{Row}
 use Rattle.reading.specs.declared.rows.Rows.{Rows}
 use Rattle.reading.specs.declared.rows.Stepped.{Stepped}
-use Rattle.reading.specs.Steps.{is_showing, HeldStep, confirmed_by, opens_in, unheld_note, is_done}
-use Rattle.reading.specs.Gathered.{row_list, gathered, sets_of, packed, no_rows, Whole, Laid, Unchanged, RowStep}
+use Rattle.reading.specs.Steps.{is_showing, HeldStep, confirmed_by, opens_in, unheld_note}
+use Rattle.reading.specs.Desks.{desk_of, lists_of, sets_of, table_in, Shelved, Ready, LaidOut, shown_then, Exchanges, Takes}
+use Rattle.reading.specs.Gathered.{row_list, gathered, packed, no_rows, Whole, Laid, Unchanged, RowStep}
 use Rattle.reading.specs.Runs.{no_reply, reply_to, reply_with, Runs}
 use Rattle.sets.proofs.StoreLaws.{set_at}
 use Rattle.reading.proofs.RunLaws.{Going, going_first, going_end}
-use Rattle.reading.proofs.Turns.{fits_now, place_short, body_of, turn_held, turn_new, turn_same, turn_taken, turn_refused}
+use Rattle.reading.proofs.Turns.{Fits', fits_now, place_short, turn_held, turn_new, turn_same, going_facts, going_took, turn_taken, turn_refused}
 use Rattle.reading.proofs.RowLaws.{row_of}
 use Rattle.reading.proofs.GatheredLaws.{length_gathered, gathered_at, gathered_set, gathered_none, unchanged_laid, unchanged_set, unchanged_none, splice_long}
 
@@ -80,6 +85,14 @@ packed_column : (v : Held → IdList) → ((e : Held) → entry_meets e ≡ true
 unfolding padded
 packed_column v ok c m = map-append packed (map v c) (replicate (most_keys - length (map v c)) empty_list) ∙ ap₂ ◌++◌ (packed_entries v ok c m) (packed_unused (most_keys - length (map v c)))
 
+-- a desk with another number of blocks; with other open lists
+abbrev pub with_blocks : Desk → ℕ → Desk
+with_blocks d m = record { laid = d.laid; on = d.on; confirmed = d.confirmed; shown = d.shown; draft = d.draft; totals = d.totals; blocks = m }
+
+abbrev pub with_open : Desk → Rows → Desk
+with_open d rows =
+    record { laid = d.laid; on = d.on; confirmed = d.confirmed; shown = d.shown; draft = record { numbers = d.draft.numbers; kinds = d.draft.kinds; rows = rows }; totals = d.totals; blocks = d.blocks }
+
 module _ (t : Sets) (c : Entries) (m : sets_meet c ≡ true) (e : t ≡ store_sets c) where
   packed_shown : map packed t.shown ≡ t.shown
   unfolding store_sets shown_in
@@ -90,9 +103,15 @@ module _ (t : Sets) (c : Entries) (m : sets_meet c ≡ true) (e : t ≡ store_se
   packed_draft = subst (λ (u : Sets). map packed u.draft ≡ u.draft) (sym e) (packed_column draft_in (λ x r. packed_maybe x.key x.draft ((entry_rules x).0 r).draft) c ((table_rules c).0 m).entries)
 
   -- sets laid out are gathered again
-  pub laid : (sn sk dn dk : List ℕ) (s d : Rows) → gathered sn sk s ≡ map packed t.shown → gathered dn dk d ≡ map packed t.draft → sets_of t t.on t.confirmed sn sk s dn dk d ≡ t
+  pub laid_desk : (s d : Column) → Laid t.shown s.rows s.numbers s.kinds → Laid t.draft d.rows d.numbers d.kinds → (n : Totals) (m : ℕ)
+      → Shelved (desk_of t s d n m) × (sets_of (desk_of t s d n m) ≡ t)
   unfolding sets_of
-  laid sn sk dn dk s d p q = ap₂ (with_lists t t.on t.confirmed) (p ∙ packed_shown) (q ∙ packed_draft)
+  laid_desk s d p q n m =
+      let a = p.same ∙ packed_shown in
+      let b = q.same ∙ packed_draft in (
+        record { shown = p.whole; draft = q.whole; shown_laid = unchanged_laid t.shown s.numbers s.kinds s.rows a; draft_laid = unchanged_laid t.draft d.numbers d.kinds d.rows b },
+        ap₂ (with_lists t t.on t.confirmed) a b,
+      )
 
 -- a packed list has at most 128 places
 short_packed : (ls : List IdList) (p : ℕ) → map packed ls ≡ ls → p < length ls → (get_or ls p past).len ≤ most_ids
@@ -101,195 +120,240 @@ short_packed ls p e h =
     let n : (get_or ls p past).len ≡ min (get_or ls p past).len most_ids = ap (λ (l : IdList). l.len) (ap (λ (x : List IdList). get_or x p past) (sym e) ∙ get_d_map packed ls p past past h) in
     omega arith
 
--- ---- what the loop keeps
+-- a table laid out
+pub laid_out : (t : Table) → Stored t → (d : Desk) → LaidOut t.sets t.totals t.blocks d → Shelved d × (table_in d ≡ t)
+unfolding Stored
+laid_out t stored d l =
+    let w = laid_desk t.sets stored.0.sets (sets_meet_law stored.0 stored.1) (ap (λ (u : Table). u.sets) stored.2) d.shown d.draft l.shown l.draft t.totals t.blocks in (
+      subst Shelved (sym l.same) w.0,
+      ap table_in l.same ∙ ap (λ (x : Sets). table_of x t.totals t.blocks) w.1,
+    )
 
--- the sets that were laid out, and the totals, blocks, states, numbers and rows since
-pub record Kept (bytes : List ℕ) (t₀ : Table) (l : Sets) (n : Totals) (m : ℕ) (on : List Bool) (ns : List ℕ) (sn sk : List ℕ) (s : Rows) (dn dk : List ℕ) (d : Rows) (reply : Reply) (spots : Spots) (from at i : ℕ) : Type 0 where
-  pub shown : Whole sn sk s
-  pub draft : Whole dn dk d
-  pub shown_laid : Unchanged l.shown sn sk s
-  pub draft_laid : Unchanged l.draft dn dk d
-  pub going : Going bytes t₀ (table_of (sets_of l on ns sn sk s dn dk d) n m) reply spots from at i
+-- ---- a field of a held key
 
-module _ (bytes : List ℕ) (t : Table) (stored : Stored t) (sn sk dn dk : List ℕ) (s d : Rows) (p : Laid t.sets.shown s sn sk) (q : Laid t.sets.draft d dn dk) where
-  pub first_table : table_of (sets_of t.sets t.sets.on t.sets.confirmed sn sk s dn dk d) t.totals t.blocks ≡ t
-  unfolding Stored
-  first_table =
-      ap (λ (x : Sets). table_of x t.totals t.blocks) (laid t.sets stored.0.sets (sets_meet_law stored.0 stored.1) (ap (λ (u : Table). u.sets) stored.2) sn sk dn dk s d p.same q.same)
+module _ (d : Desk) (S : Shelved d) (p : ℕ) (hp : p < most_keys) (k : ℕ) (k-is : k ≡ most_ids) (body : List ℕ) (f : Field) (row list : Row)
+    (row_is : row ≡ row_of (get_or d.shown.rows.lens p 0) (get_or d.shown.rows.names p 0)) (list_is : list ≡ row_of (get_or d.draft.rows.lens p 0) (get_or d.draft.rows.names p 0))
+    (r : Stepped) (sn' sk' dn' dk' : List ℕ)
+    (step : RowStep body f row list r
+    (take k (drop (p * most_ids) d.shown.numbers)) (take k (drop (p * most_ids) d.shown.kinds)) (take k (drop (p * most_ids) d.draft.numbers)) (take k (drop (p * most_ids) d.draft.kinds)) sn' sk' dn' dk')
+    (lsn : length sn' ≡ most_ids) (lsk : length sk' ≡ most_ids) (ldn : length dn' ≡ most_ids) (ldk : length dk' ≡ most_ids) where
+  shown_at_law : get_or (lists_of d.shown) p past ≡ row_list (take k (drop (p * most_ids) d.shown.numbers)) (take k (drop (p * most_ids) d.shown.kinds)) row
+  shown_at_law = gathered_at d.shown.numbers d.shown.kinds d.shown.rows S.shown p k k-is hp ∙ ap (row_list (take k (drop (p * most_ids) d.shown.numbers)) (take k (drop (p * most_ids) d.shown.kinds))) (sym row_is)
 
-  pub kept_first : (reply : Reply) → reply ≡ no_reply → (spots : Spots) → spots ≡ no_spots
-      → Kept bytes (table_of (sets_of t.sets t.sets.on t.sets.confirmed sn sk s dn dk d) t.totals t.blocks) t.sets t.totals t.blocks t.sets.on t.sets.confirmed sn sk s dn dk d reply spots 0 0 0
-  unfolding Stored
-  kept_first reply re spots se =
+  draft_at : get_or (lists_of d.draft) p past ≡ row_list (take k (drop (p * most_ids) d.draft.numbers)) (take k (drop (p * most_ids) d.draft.kinds)) list
+  draft_at = gathered_at d.draft.numbers d.draft.kinds d.draft.rows S.draft p k k-is hp ∙ ap (row_list (take k (drop (p * most_ids) d.draft.numbers)) (take k (drop (p * most_ids) d.draft.kinds))) (sym list_is)
+
+  -- a column with a row exchanged, and all rows with one
+  abbrev put' : List ℕ → List ℕ → List ℕ
+  put' xs row = take (p * most_ids) xs ++ (row ++ drop k (drop (p * most_ids) xs))
+
+  abbrev rows' : Rows → Row → Rows
+  rows' x y = record { lens = set x.lens p y.len; names = set x.names p y.named; changed = set x.changed p true }
+
+  whole' : (xs ys : List ℕ) (x : Rows) → Whole xs ys x → (a b : List ℕ) → length a ≡ most_ids → length b ≡ most_ids → (y : Row) → Whole (put' xs a) (put' ys b) (rows' x y)
+  whole' xs ys x w a b la lb y =
       record {
-        shown = p.whole;
-        draft = q.whole;
-        shown_laid = unchanged_laid t.sets.shown sn sk s (p.same ∙ packed_shown t.sets stored.0.sets (sets_meet_law stored.0 stored.1) (ap (λ (u : Table). u.sets) stored.2));
-        draft_laid = unchanged_laid t.sets.draft dn dk d (q.same ∙ packed_draft t.sets stored.0.sets (sets_meet_law stored.0 stored.1) (ap (λ (u : Table). u.sets) stored.2));
-        going = going_first bytes (table_of (sets_of t.sets t.sets.on t.sets.confirmed sn sk s dn dk d) t.totals t.blocks) reply spots stored.0 stored.1 (first_table ∙ stored.2) re se;
+        numbers = splice_long p k k-is hp xs w.numbers a la;
+        kinds = splice_long p k k-is hp ys w.kinds b lb;
+        lens = length-set x.lens p y.len ∙ w.lens;
+        names = length-set x.names p y.named ∙ w.names;
+        changed = length-set x.changed p true ∙ w.changed;
       }
 
--- ---- a turn
+  unchanged' : (ls : List IdList) (xs ys : List ℕ) (x : Rows) → Whole xs ys x → Unchanged ls xs ys x → (a b : List ℕ) → length a ≡ most_ids → length b ≡ most_ids → (y : Row)
+      → Unchanged ls (put' xs a) (put' ys b) (rows' x y)
+  unchanged' ls xs ys x w u a b la lb y =
+      unchanged_set ls xs ys (put' xs a) (put' ys b) x (rows' x y) p (row_list a b y) (omega (arith, w.changed)) refl (gathered_set xs ys x w p k k-is hp a b la lb y.len y.named true) u
 
-module _ {bytes : List ℕ} {t₀ : Table} {l : Sets} {n : Totals} {m : ℕ} {on : List Bool} {ns : List ℕ} {sn sk : List ℕ} {s : Rows} {dn dk : List ℕ} {d : Rows} {reply : Reply} {spots : Spots} {from at i : ℕ}
-    (K : Kept bytes t₀ l n m on ns sn sk s dn dk d reply spots from at i) where
-  abbrev t : Sets
-  t = sets_of l on ns sn sk s dn dk d
+  abbrev desk' : Rows → Rows → ℕ → Totals → Desk
+  desk' s' d' q u =
+      record {
+        laid = d.laid;
+        on = set d.on p (eqb f.la 1);
+        confirmed = set d.confirmed p q;
+        shown = record { numbers = put' d.shown.numbers sn'; kinds = put' d.shown.kinds sk'; rows = s' };
+        draft = record { numbers = put' d.draft.numbers dn'; kinds = put' d.draft.kinds dk'; rows = d' };
+        totals = u;
+        blocks = d.blocks;
+      }
 
-  -- with the totals and the count
-  abbrev u : Table
-  u = table_of t n m
+  shown_is : row_list sn' sk' r.shown ≡ shown_then d p r.note
+  shown_is = step.showing ∙ ap₂ (λ (x y : IdList). cond (is_showing r.note) x y) (sym draft_at) (sym shown_at_law)
 
-  -- what the code reads at the present field is its body
-  pub field_body : i < spots.count
-      → take (from + (get_or spots.spots i no_spot).end - (from + (get_or spots.spots i no_spot).start)) (drop (from + (get_or spots.spots i no_spot).start) bytes)
-      ≡ body_at (take 32 (drop from bytes)) (get_or spots.spots i no_spot)
-  field_body lt = let w = fits_now bytes t₀ u reply spots from at i K.going lt in body_of bytes from (get_or spots.spots i no_spot) w.ordered w.inside
+  exchanged_rows : (q : ℕ) → q ≡ confirmed_by r.note (get_or d.confirmed p 0) d.blocks → (u : Totals) → u ≡ exchanged_set d.totals row.len (get_or d.on p false) r.shown.len (eqb f.la 1)
+      → Exchanges d p body f (desk' (rows' d.shown.rows r.shown) (rows' d.draft.rows r.draft) q u) r.note
+  unfolding sets_of row_list
+  exchanged_rows q qe u ue =
+      record {
+        shelved =
+            record {
+              shown = whole' d.shown.numbers d.shown.kinds d.shown.rows S.shown sn' sk' lsn lsk r.shown;
+              draft = whole' d.draft.numbers d.draft.kinds d.draft.rows S.draft dn' dk' ldn ldk r.draft;
+              shown_laid = unchanged' d.laid.shown d.shown.numbers d.shown.kinds d.shown.rows S.shown S.shown_laid sn' sk' lsn lsk r.shown;
+              draft_laid = unchanged' d.laid.draft d.draft.numbers d.draft.kinds d.draft.rows S.draft S.draft_laid dn' dk' ldn ldk r.draft;
+            };
+        draft = row_list dn' dk' r.draft;
+        drafted = subst (λ (l : IdList). HeldStep body f l (record { draft = row_list dn' dk' r.draft; shows = is_showing r.note; note = r.note })) (sym draft_at) step.drafted;
+        sets =
+            let a = gathered_set d.shown.numbers d.shown.kinds d.shown.rows S.shown p k k-is hp sn' sk' lsn lsk r.shown.len r.shown.named true ∙ ap (set (lists_of d.shown) p) shown_is in
+            let b = gathered_set d.draft.numbers d.draft.kinds d.draft.rows S.draft p k k-is hp dn' dk' ldn ldk r.draft.len r.draft.named true in
+            λ i. with_lists d.laid (set d.on p (eqb f.la 1)) (set d.confirmed p (qe i)) (a i) (b i);
+        totals =
+            let was = ap (λ (x : IdList). x.len) shown_at_law in
+            let is = ap (λ (x : IdList). x.len) shown_is in
+            ue ∙ (λ i. exchanged_set d.totals (sym was i) (get_or d.on p false) (is i) (eqb f.la 1));
+        blocks = refl;
+      }
 
+  pub exchanged_law : (s' d' : Rows) → s' ≡ rows' d.shown.rows r.shown → d' ≡ rows' d.draft.rows r.draft → (q : ℕ) → q ≡ confirmed_by r.note (get_or d.confirmed p 0) d.blocks
+      → (u : Totals) → u ≡ exchanged_set d.totals row.len (get_or d.on p false) r.shown.len (eqb f.la 1) → Exchanges d p body f (desk' s' d' q u) r.note
+  exchanged_law s' d' se de q qe u ue = subst₂ (λ (x y : Rows). Exchanges d p body f (desk' x y q u) r.note) (sym se) (sym de) (exchanged_rows q qe u ue)
+
+-- ---- a field
+
+module _ (d : Desk) (R : Ready d) where
   -- a held key has one of 32 places
-  pub held_place : (p key : ℕ) → (ltb p l.count && eqb (get_or l.keys p 0) key) ≡ true → p < most_keys
+  pub held_place : (p key : ℕ) → (ltb p d.laid.count && eqb (get_or d.laid.keys p 0) key) ≡ true → p < most_keys
   unfolding sets_of
-  held_place = place_short bytes t₀ u reply spots from at i K.going
+  held_place = place_short (table_in d) R.content R.content_meets R.stored
 
   -- an open list has at most 128 identifiers
-  pub draft_short : (p : ℕ) → p < most_keys → (list : Row) → list ≡ row_of (get_or d.lens p 0) (get_or d.names p 0) → list.len ≤ most_ids
+  pub draft_short : (p : ℕ) → p < most_keys → get_or d.draft.rows.lens p 0 ≤ most_ids
   unfolding sets_of row_list
-  draft_short p hp list le =
-      let len_is = ap (λ (x : Row). x.len) le in
-      let G = K.going in
-      let short = short_packed (gathered dn dk d) p (packed_draft t G.now'.sets (sets_meet_law G.now' G.now_meets) (ap (λ (x : Table). x.sets) G.stored)) (omega (arith, length_gathered dn dk d K.draft)) in
-      let at_place = ap (λ (l : IdList). l.len) (gathered_at dn dk d K.draft p most_ids refl hp) in
+  draft_short p hp =
+      let short = short_packed (lists_of d.draft) p (packed_draft (sets_of d) R.content.sets (sets_meet_law R.content R.content_meets) (ap (λ (x : Table). x.sets) R.stored)) (omega (arith, length_gathered d.draft.numbers d.draft.kinds d.draft.rows R.shelved.draft)) in
+      let at_place = ap (λ (l : IdList). l.len) (gathered_at d.draft.numbers d.draft.kinds d.draft.rows R.shelved.draft p most_ids refl hp) in
       omega arith
 
-  -- the end
-  pub kept_end : spots.count ≤ i → length bytes - at < 32 → (v : Table) → t₀ ≡ v → (r : Table) → r ≡ u
-      → Runs v bytes (record { reply = reply; table = r })
-  kept_end a b v e r re =
-      subst (λ (x : Table). Runs x bytes (record { reply = reply; table = r })) e (going_end bytes t₀ u reply spots from at i K.going a b r re)
+module _ (d : Desk) (body : List ℕ) (f : Field) (key : ℕ) (ke : key ≡ key_in f) (p : ℕ) (p-is : p ≡ place_in (take d.laid.count d.laid.keys) key) where
+  pub takes_held : (ltb p d.laid.count && eqb (get_or d.laid.keys p 0) key) ≡ true → (d' : Desk) (note : Note) → Exchanges d p body f d' note → Takes d body f d' note
+  unfolding Takes sets_of set_at
+  takes_held b d' note E c place next meet stored found reserved rules =
+      let w =
+      turn_held (table_in d) c meet stored body f place next found reserved key ke p p-is b (record { draft = E.draft; shows = is_showing note; note = note }) E.drafted
+      (shown_then d p note) refl _ refl _ refl rules in
+      (E.shelved, (λ i. table_of (E.sets i) (E.totals i) (E.blocks i)) ∙ w.0, w.1)
 
-  -- a field
-  module _ (lt : i < spots.count) (body : List ℕ) (body_is : body ≡ body_at (take 32 (drop from bytes)) (get_or spots.spots i no_spot))
-      (f : Field) (f-is : f ≡ field_in body (get_or spots.spots i no_spot).place) (key : ℕ) (ke : key ≡ key_in f) (p : ℕ) (p-is : p ≡ place_in (take l.count l.keys) key)
-      (reply' : Reply) where
-    kept : {l' : Sets} {n' : Totals} {m' : ℕ} {on' : List Bool} {ns' : List ℕ} {sn' sk' : List ℕ} {s' : Rows} {dn' dk' : List ℕ} {d' : Rows} → Whole sn' sk' s' → Whole dn' dk' d'
-        → Unchanged l'.shown sn' sk' s' → Unchanged l'.draft dn' dk' d'
-        → Going bytes t₀ (table_of (sets_of l' on' ns' sn' sk' s' dn' dk' d') n' m') reply' spots from at (i + 1) → Kept bytes t₀ l' n' m' on' ns' sn' sk' s' dn' dk' d' reply' spots from at (i + 1)
-    kept ws wd us ud G = record { shown = ws; draft = wd; shown_laid = us; draft_laid = ud; going = G }
+  module _ (b : (ltb p d.laid.count && eqb (get_or d.laid.keys p 0) key) ≡ false) where
+    pub takes_new : opens_in f d.laid.count ≡ true → ((i : ℕ) → get_or body i 0 < 256)
+        → (d' : Desk) → LaidOut (opened_sets (sets_of d) p key (eqb f.la 1) (unwrap_or (with_field empty_list body f) empty_list)) d.totals d.blocks d' → Takes d body f d' Opened
+    unfolding Takes sets_of
+    takes_new open' b256 d' l c place next meet stored found reserved rules =
+        let t' = opened_sets (sets_of d) p key (eqb f.la 1) (unwrap_or (with_field empty_list body f) empty_list) in
+        let w = turn_new (table_in d) c meet stored body f place next found reserved key ke p p-is b open' b256 t' refl rules in
+        let after = with_sets c (rule_step linkage c.sets (said c.blocks (meaning body f))).0 in
+        let s = laid_desk t' after.sets (sets_meet_law after rules) (ap (λ (x : Table). x.sets) w.0) d'.shown d'.draft l.shown l.draft d.totals d.blocks in
+        (subst Shelved (sym l.same) s.0, ap table_in l.same ∙ ap (λ (x : Sets). table_of x d.totals d.blocks) s.1 ∙ w.0, w.1)
 
-    abbrev noted' : Note → Type 0
-    noted' n = reply' ≡ reply_with reply i n
+    pub takes_same : opens_in f d.laid.count ≡ false → Shelved d → (note : Note) → note ≡ unheld_note f → Takes d body f d note
+    unfolding Takes sets_of
+    takes_same shut' S note ne c place next meet stored found reserved rules =
+        let w = turn_same (table_in d) c meet stored body f place next found reserved key ke p p-is b shut' note ne rules in
+        (S, w.0, w.1)
 
-    -- of a held key
-    module _ (b : (ltb p l.count && eqb (get_or l.keys p 0) key) ≡ true) (hp : p < most_keys) (k : ℕ) (k-is : k ≡ most_ids) (row list : Row)
-        (row_is : row ≡ row_of (get_or s.lens p 0) (get_or s.names p 0)) (list_is : list ≡ row_of (get_or d.lens p 0) (get_or d.names p 0)) (r : Stepped) (sn' sk' dn' dk' : List ℕ)
-        (step : RowStep body f row list r
-        (take k (drop (p * most_ids) sn)) (take k (drop (p * most_ids) sk)) (take k (drop (p * most_ids) dn)) (take k (drop (p * most_ids) dk)) sn' sk' dn' dk')
-        (lsn : length sn' ≡ most_ids) (lsk : length sk' ≡ most_ids) (ldn : length dn' ≡ most_ids) (ldk : length dk' ≡ most_ids) where
-      shown_at_law : get_or t.shown p past ≡ row_list (take k (drop (p * most_ids) sn)) (take k (drop (p * most_ids) sk)) row
-      unfolding sets_of
-      shown_at_law = gathered_at sn sk s K.shown p k k-is hp ∙ ap (row_list (take k (drop (p * most_ids) sn)) (take k (drop (p * most_ids) sk))) (sym row_is)
+-- ---- what the loops keep: over the fields of a block, and over the blocks
 
-      draft_at : get_or t.draft p past ≡ row_list (take k (drop (p * most_ids) dn)) (take k (drop (p * most_ids) dk)) list
-      unfolding sets_of
-      draft_at = gathered_at dn dk d K.draft p k k-is hp ∙ ap (row_list (take k (drop (p * most_ids) dn)) (take k (drop (p * most_ids) dk))) (sym list_is)
+pub record Kept (bytes : List ℕ) (t₀ : Table) (d : Desk) (reply : Reply) (spots : Spots) (from at i : ℕ) : Type 0 where
+  pub shelved : Shelved d
+  pub going : Going bytes t₀ (table_in d) reply spots from at i
 
-      -- a column with a row exchanged, and all rows with one
-      abbrev put' : List ℕ → List ℕ → List ℕ
-      put' xs row = take (p * most_ids) xs ++ (row ++ drop k (drop (p * most_ids) xs))
+pub record Between (bytes : List ℕ) (t₀ : Table) (d : Desk) (reply : Reply) (at : ℕ) : Type 0 where
+  pub spots : Spots
+  pub from : ℕ
+  pub i : ℕ
+  pub passed : spots.count ≤ i
+  pub kept : Kept bytes t₀ d reply spots from at i
 
-      abbrev rows' : Rows → ℕ → ℕ → Rows
-      rows' x len named = record { lens = set x.lens p len; names = set x.names p named; changed = set x.changed p true }
-
-      abbrev on' : List Bool
-      on' = set on p (eqb f.la 1)
-
-      whole' : (xs ys : List ℕ) (x : Rows) → Whole xs ys x → (a b : List ℕ) → length a ≡ most_ids → length b ≡ most_ids → (len named : ℕ) → Whole (put' xs a) (put' ys b) (rows' x len named)
-      whole' xs ys x w a b la lb len named =
+pub kept_first : (bytes : List ℕ) (t : Table) → Stored t → (d : Desk) → LaidOut t.sets t.totals t.blocks d → (reply : Reply) → reply ≡ no_reply → Between bytes t d reply 0
+unfolding Stored no_spots
+kept_first bytes t stored d l reply re =
+    let w = laid_out t stored d l in
+    record {
+      spots = no_spots;
+      from = 0;
+      i = 0;
+      passed = omega arith;
+      kept =
           record {
-            numbers = splice_long p k k-is hp xs w.numbers a la;
-            kinds = splice_long p k k-is hp ys w.kinds b lb;
-            lens = length-set x.lens p len ∙ w.lens;
-            names = length-set x.names p named ∙ w.names;
-            changed = length-set x.changed p true ∙ w.changed;
-          }
+            shelved = w.0;
+            going = subst (λ (x : Table). Going bytes t x reply no_spots 0 0 0) (sym w.1) (going_first bytes t reply no_spots stored.0 stored.1 stored.2 re refl);
+          };
+    }
 
-      unchanged' : (ls : List IdList) (xs ys : List ℕ) (x : Rows) → Whole xs ys x → Unchanged ls xs ys x → (a b : List ℕ) → length a ≡ most_ids → length b ≡ most_ids → (len named : ℕ)
-          → Unchanged ls (put' xs a) (put' ys b) (rows' x len named)
-      unchanged' ls xs ys x w u a b la lb len named =
-          unchanged_set ls xs ys (put' xs a) (put' ys b) x (rows' x len named) p (row_list a b (row_of len named)) (omega (arith, w.changed)) refl (gathered_set xs ys x w p k k-is hp a b la lb len named true) u
+module _ {bytes : List ℕ} {t₀ : Table} {d : Desk} {reply : Reply} {spots : Spots} {from at i : ℕ} (K : Kept bytes t₀ d reply spots from at i) where
+  pub kept_ready : Ready d
+  kept_ready = record { shelved = K.shelved; content = K.going.now'; content_meets = K.going.now_meets; stored = K.going.stored }
 
-      table_is : (q : ℕ) → set_at t p (eqb f.la 1) q (row_list sn' sk' r.shown) (row_list dn' dk' r.draft)
-          ≡ sets_of l on' (set ns p q) (put' sn sn') (put' sk sk') (rows' s r.shown.len r.shown.named) (put' dn dn') (put' dk dk') (rows' d r.draft.len r.draft.named)
-      unfolding set_at sets_of
-      table_is q =
-          let a = gathered_set sn sk s K.shown p k k-is hp sn' sk' lsn lsk r.shown.len r.shown.named true in
-          let b = gathered_set dn dk d K.draft p k k-is hp dn' dk' ldn ldk r.draft.len r.draft.named true in
-          ap₂ (with_lists l on' (set ns p q)) (sym a) (sym b)
+  pub kept_fits : i < spots.count → Fits' bytes reply spots i
+  kept_fits = fits_now bytes t₀ (table_in d) reply spots from at i K.going
 
-      -- the set that was shown is known by its row
-      len_is : (get_or t.shown p past).len ≡ get_or s.lens p 0
-      unfolding row_list
-      len_is = ap (λ (x : IdList). x.len) shown_at_law ∙ ap (λ (x : Row). x.len) row_is
+  pub kept_field : i < spots.count → (body : List ℕ) → body ≡ body_at (take 32 (drop from bytes)) (get_or spots.spots i no_spot) → (f : Field) → f ≡ field_in body (get_or spots.spots i no_spot).place
+      → (d' : Desk) (m : Note) → Takes d body f d' m → (reply' : Reply) → reply' ≡ reply_with reply i m → Kept bytes t₀ d' reply' spots from at (i + 1)
+  unfolding Takes
+  kept_field h body body_is f f-is d' m T reply' re =
+      let G = K.going in
+      let w = going_facts bytes t₀ (table_in d) reply spots from at i G h body body_is f f-is in
+      let r = T G.now' w.place w.next G.now_meets G.stored w.found w.reserved w.rules in
+      record {
+        shelved = r.0;
+        going =
+            going_took bytes t₀ (table_in d) reply spots from at i G h body body_is f f-is (table_in d') m r.1 r.2 reply' re;
+      }
 
-      pub kept_held : (q : ℕ) → q ≡ confirmed_by r.note (get_or ns p 0) m → (n' : Totals) → n' ≡ exchanged_set n (get_or s.lens p 0) (get_or on p false) r.shown.len (eqb f.la 1) → noted' r.note
-          → Kept bytes t₀ l n' m on' (set ns p q) (put' sn sn') (put' sk sk') (rows' s r.shown.len r.shown.named) (put' dn dn') (put' dk dk') (rows' d r.draft.len r.draft.named) reply' spots from at (i + 1)
-      unfolding sets_of row_list
-      kept_held q qe n' ne re =
-          kept (whole' sn sk s K.shown sn' sk' lsn lsk r.shown.len r.shown.named) (whole' dn dk d K.draft dn' dk' ldn ldk r.draft.len r.draft.named)
-          (unchanged' l.shown sn sk s K.shown K.shown_laid sn' sk' lsn lsk r.shown.len r.shown.named) (unchanged' l.draft dn dk d K.draft K.draft_laid dn' dk' ldn ldk r.draft.len r.draft.named)
-          (subst (λ (x : Sets). Going bytes t₀ (table_of x n' m) reply' spots from at (i + 1)) (table_is q)
-          (turn_held bytes t₀ u reply spots from at i K.going lt body body_is f f-is key ke p p-is b
-          (record { draft = row_list dn' dk' r.draft; shows = is_showing r.note; note = r.note })
-          (subst (λ (l : IdList). HeldStep body f l (record { draft = row_list dn' dk' r.draft; shows = is_showing r.note; note = r.note })) (sym draft_at) step.drafted)
-          (row_list sn' sk' r.shown) (step.showing ∙ ap₂ (λ (x y : IdList). cond (is_showing r.note) x y) (sym draft_at) (sym shown_at_law))
-          q qe n' (ne ∙ sym (ap (λ (k : ℕ). exchanged_set n k (get_or on p false) r.shown.len (eqb f.la 1)) len_is)) reply' re))
+  pub kept_passed : spots.count ≤ i → (at' : ℕ) → at ≡ at' → Between bytes t₀ d reply at'
+  kept_passed h at' e = subst (Between bytes t₀ d reply) e (record { spots = spots; from = from; i = i; passed = h; kept = K })
 
-    -- of a key that is not held
-    module _ (b : (ltb p l.count && eqb (get_or l.keys p 0) key) ≡ false) where
-      pub kept_new : opens_in f l.count ≡ true → ((n : ℕ) → get_or bytes n 0 < 256) → (t' now' : Sets) → now' ≡ t → t' ≡ opened_sets now' p key (eqb f.la 1) (with_field empty_list body f).list
-          → (sn' sk' dn' dk' : List ℕ) (s' d' : Rows) → Laid t'.shown s' sn' sk' → Laid t'.draft d' dn' dk' → noted' Opened
-          → Kept bytes t₀ t' n m t'.on t'.confirmed sn' sk' s' dn' dk' d' reply' spots from at (i + 1)
-      unfolding sets_of
-      kept_new open' b256 t' now' ne te sn' sk' dn' dk' s' d' ps pd re =
-          let G = turn_new bytes t₀ u reply spots from at i K.going lt body body_is f f-is key ke p p-is b open' b256 empty_list (with_field empty_list body f) refl refl
-          t' (te ∙ ap (λ (x : Sets). opened_sets x p key (eqb f.la 1) (with_field empty_list body f).list) ne) reply' re in
-          let store = ap (λ (x : Table). x.sets) G.stored in
-          kept ps.whole pd.whole
-          (unchanged_laid t'.shown sn' sk' s' (ps.same ∙ packed_shown t' G.now'.sets (sets_meet_law G.now' G.now_meets) store)) (unchanged_laid t'.draft dn' dk' d' (pd.same ∙ packed_draft t' G.now'.sets (sets_meet_law G.now' G.now_meets) store))
-          (subst (λ (x : Sets). Going bytes t₀ (table_of x n m) reply' spots from at (i + 1)) (sym (laid t' G.now'.sets (sets_meet_law G.now' G.now_meets) store sn' sk' dn' dk' s' d' ps.same pd.same)) G)
+module _ {bytes : List ℕ} {t₀ : Table} {d : Desk} {reply : Reply} {at : ℕ} (B : Between bytes t₀ d reply at) where
+  abbrev G : Going bytes t₀ (table_in d) reply B.spots B.from at B.i
+  G = B.kept.going
 
-      pub kept_same : opens_in f l.count ≡ false → (q : Note) → q ≡ unheld_note f → noted' q → Kept bytes t₀ l n m on ns sn sk s dn dk d reply' spots from at (i + 1)
-      unfolding sets_of
-      kept_same shut' q qe re =
-          kept K.shown K.draft K.shown_laid K.draft_laid
-          (turn_same bytes t₀ u reply spots from at i K.going lt body body_is f f-is key ke p p-is b shut' q qe reply' re)
+  pub between_fewer : reply.refused ≤ at
+  between_fewer = G.fewer
 
-  -- a block
-  module _ (a : spots.count ≤ i) (more : 32 ≤ length bytes - at) (b256 : (n : ℕ) → get_or bytes n 0 < 256) (part : List ℕ) (part-is : part ≡ take 32 (drop at bytes)) (r : Judged)
-      (judged : JudgedAs part (verdict part) r) (reply' : Reply) (re : reply' ≡ reply_to reply r.outcome r.place) (m' : ℕ) (me : m' ≡ next_block m) where
-    pub kept_taken : is_done r.outcome ≡ true → Kept bytes t₀ l n m' on ns sn sk s dn dk d reply' r.spots at (at + 32) 0
-    kept_taken y =
-        record {
-          shown = K.shown;
-          draft = K.draft;
-          shown_laid = K.shown_laid;
-          draft_laid = K.draft_laid;
-          going =
-              subst (λ (k : ℕ). Going bytes t₀ (table_of t n k) reply' r.spots at (at + 32) 0) (sym me)
-              (turn_taken bytes t₀ u reply spots from at i K.going a more b256 part part-is r reply' re judged y);
-        }
-
-    pub kept_refused : is_done r.outcome ≡ false → (d' : Rows) → d' ≡ no_rows → Kept bytes t₀ l n m' on ns sn sk s dn dk d' reply' r.spots at (at + 32) 0
+  -- a block more
+  module _ (more : 32 ≤ length bytes - at) (b256 : (n : ℕ) → get_or bytes n 0 < 256) (part : List ℕ) (part-is : part ≡ take 32 (drop at bytes)) (reply' : Reply) (m : ℕ) (me : m ≡ next_block d.blocks) where
+    pub kept_taken : (spots' : Spots) → JudgedAs part (verdict part) (Ok spots') → reply' ≡ reply_to reply Done 0
+        → Kept bytes t₀ (with_blocks d m) reply' spots' at (at + 32) 0
     unfolding sets_of
-    kept_refused y d' de =
-        let no_lists : gathered dn dk d' ≡ replicate most_keys empty_list = ap (gathered dn dk) de ∙ gathered_none dn dk in
+    kept_taken spots' judged re =
         record {
-          shown = K.shown;
-          draft = subst (Whole dn dk) (sym de) (record { numbers = K.draft.numbers; kinds = K.draft.kinds; lens = unfold no_rows in refl; names = unfold no_rows in refl; changed = unfold no_rows in refl });
-          shown_laid = K.shown_laid;
-          draft_laid = subst (Unchanged l.draft dn dk) (sym de) (unchanged_none l.draft dn dk);
+          shelved = record { shown = B.kept.shelved.shown; draft = B.kept.shelved.draft; shown_laid = B.kept.shelved.shown_laid; draft_laid = B.kept.shelved.draft_laid };
           going =
-              subst (λ (k : ℕ). Going bytes t₀ (table_of (with_lists l on ns (gathered sn sk s) (gathered dn dk d')) n k) reply' r.spots at (at + 32) 0) (sym me)
-              (subst (λ (x : List IdList). Going bytes t₀ (table_of (with_lists l on ns (gathered sn sk s) x) n (next_block m)) reply' r.spots at (at + 32) 0) (sym no_lists)
-              (turn_refused bytes t₀ u reply spots from at i K.going a more b256 part part-is r reply' re judged y empty_list refl));
+              subst (λ (k : ℕ). Going bytes t₀ (table_of (sets_of d) d.totals k) reply' spots' at (at + 32) 0) (sym me)
+              (turn_taken bytes t₀ (table_in d) reply B.spots B.from at B.i G B.passed more b256 part part-is reply' spots' judged re);
         }
+
+    pub kept_refused : (r : Refused) → JudgedAs part (verdict part) (Err r) → reply' ≡ reply_to reply (outcome_of r.fault) r.place
+        → (rows : Rows) → rows ≡ no_rows → Between bytes t₀ (with_open (with_blocks d m) rows) reply' (at + 32)
+    unfolding sets_of no_spots
+    kept_refused r judged re rows de =
+        let no_lists : gathered d.draft.numbers d.draft.kinds rows ≡ replicate most_keys empty_list = ap (gathered d.draft.numbers d.draft.kinds) de ∙ gathered_none d.draft.numbers d.draft.kinds in
+        record {
+          spots = no_spots;
+          from = at;
+          i = 0;
+          passed = omega arith;
+          kept =
+              record {
+                shelved =
+                    record {
+                      shown = B.kept.shelved.shown;
+                      draft =
+                          subst (Whole d.draft.numbers d.draft.kinds) (sym de)
+                          (record { numbers = B.kept.shelved.draft.numbers; kinds = B.kept.shelved.draft.kinds; lens = unfold no_rows in refl; names = unfold no_rows in refl; changed = unfold no_rows in refl });
+                      shown_laid = B.kept.shelved.shown_laid;
+                      draft_laid = subst (Unchanged d.laid.draft d.draft.numbers d.draft.kinds) (sym de) (unchanged_none d.laid.draft d.draft.numbers d.draft.kinds);
+                    };
+                going =
+                    subst (λ (k : ℕ). Going bytes t₀ (table_of (with_lists d.laid d.on d.confirmed (lists_of d.shown) (gathered d.draft.numbers d.draft.kinds rows)) d.totals k) reply' no_spots at (at + 32) 0) (sym me)
+                    (subst (λ (x : List IdList). Going bytes t₀ (table_of (with_lists d.laid d.on d.confirmed (lists_of d.shown) x) d.totals (next_block d.blocks)) reply' no_spots at (at + 32) 0) (sym no_lists)
+                    (turn_refused bytes t₀ (table_in d) reply B.spots B.from at B.i G B.passed more b256 part part-is reply' r judged re no_spots refl empty_list refl));
+              };
+        }
+
+  pub between_at : (at' : ℕ) → at ≡ at' → Between bytes t₀ d reply at'
+  between_at at' e = subst (Between bytes t₀ d reply) e B
+
+  -- the end
+  pub between_end : length bytes - at < 32 → (s : Sets) → s ≡ sets_of d → (r : Table) → r ≡ table_of s d.totals d.blocks → Runs t₀ bytes (record { reply = reply; table = r })
+  between_end b s se r re = going_end bytes t₀ (table_in d) reply B.spots B.from at B.i G B.passed b r (re ∙ ap (λ (x : Sets). table_of x d.totals d.blocks) se)

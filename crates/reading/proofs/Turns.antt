@@ -1,23 +1,22 @@
--- One turn of the loop that reads blocks, as the code takes it: the part of the recording that a field stands in; a field of a
--- held key; of a new key; one that changes nothing; a refused block.
-use Prim.Native.Nat.{ℕ, zero, suc, ◌+◌, ◌-◌, ◌<◌, ◌≤◌, min}
+-- What a field does to a stored table, as the code takes it: one of a held key; of a new key; one that changes nothing. Then a turn at
+-- a field, and at a block, taken or refused.
+use Prim.Native.Nat.{ℕ, ◌+◌, ◌-◌, ◌<◌, ◌≤◌, min}
 use native.Mathlib.Omega.{arith}
 use mathlib.Core.Path.{◌≡◌, refl, sym, ap, ap₂, ◌∙◌, subst}
 use mathlib.Core.Bool.{Bool, true, false, not, cond, ◌&&◌, true≢false}
-use mathlib.Core.List.{List, [], ◌∷◌, map}
+use mathlib.Core.List.{List, map}
 use lib.ListN.{length-take, length-drop, length, get_or, set, take, drop, replicate}
 use lib.Dec.{ltb, eqb}
-use lib.Seq.{take-take, drop-drop}
 use borrow.Author.Tests.{ltb-true, ltb-false, not-true}
 use Rattle.rules.specs.Arrays.{padded}
-use Rattle.rules.specs.Outcomes.{verdict, no_block}
-use Rattle.rules.proofs.LinkageLaws.{Refusal, full_refusal, refused_not_done}
+use Rattle.rules.specs.Outcomes.{Verdict, verdict, taken, refused, no_block}
+use Rattle.rules.proofs.LinkageLaws.{Refusal, full_refusal}
 use Rattle.rules.specs.declared.Note.{Note}
 use Rattle.rules.specs.declared.Note.TheVariants.{Opened, Full, UnknownKey}
 use Rattle.rules.specs.Field.{Field as FieldOf, key_of}
 use Rattle.rules.specs.Family.{Act, start, continuation, no_list, step, on_held, fresh, insert, opening, drop_open}
 use Rattle.rules.specs.Receptions.{held_keys}
-use Rattle.rules.specs.Collecting.{linkage, Held, Entries, with_sets, next_block, after_block, said, act_of, brings, if_there, sets_meet, shown_sets, most_keys}
+use Rattle.rules.specs.Collecting.{linkage, Held, Entries, Content, meets, with_sets, next_block, after_block, said, act_of, brings, if_there, sets_meet, shown_sets, most_keys}
 use Rattle.rules.proofs.FamilyLaws.{Ascends, on_held_key}
 use Rattle.rules.proofs.Basics.{cases_bool, and_left, and_right}
 use Rattle.rules.proofs.TableRules.{table_rules, table_meets_law, sets_meet_law, entry_rules}
@@ -25,9 +24,8 @@ use Rattle.rules.proofs.Entries.{column_at}
 use Rattle.field.specs.declared.Field.{Field}
 use Rattle.field.specs.declared.FieldStep.TheVariants.{Found}
 use Rattle.field.specs.FieldStep.{meaning, key_in, has_list_in, continues, field_step_at}
-use Rattle.field.proofs.Laws.{InBody, field_step_at_range}
+use Rattle.field.proofs.Laws.{field_step_at_range}
 use Rattle.lists.specs.declared.IdList.{IdList}
-use Rattle.lists.specs.declared.Grown.{Grown}
 use Rattle.lists.specs.Stored.{store_list, empty_list, store_maybe}
 use Rattle.lists.specs.Grown.{with_field}
 use Rattle.lists.proofs.GrownLaws.{with_none}
@@ -44,93 +42,74 @@ use Rattle.sets.specs.Places.{place_in}
 use Rattle.sets.proofs.Entries.{no_entry, Here, entry_at_law}
 use Rattle.sets.proofs.PlaceLaws.{stands, stands_not, place_at, count_of}
 use Rattle.sets.proofs.StoreLaws.{set_at, store_set, store_closed}
-use Rattle.block.specs.declared.Spot.{Spot}
 use Rattle.block.specs.declared.Spots.{Spots}
-use Rattle.block.specs.declared.Judged.{Judged}
-use Rattle.block.specs.Judged.{field_in, no_spot}
-use Rattle.block.proofs.Meaning.{body_at, SpotIs, SpotsAre, JudgedAs, is_taken, is_refused, is_no_block}
+use Rattle.std.specs.Prelude.{Result, Ok, Err, Option, unwrap_or}
+use Rattle.std.specs.Result.{is_ok}
+use Rattle.rules.specs.declared.Outcome.TheVariants.{Done}
+use Rattle.block.specs.declared.Refused.{Refused}
+use Rattle.block.specs.Judged.{field_in, no_spot, no_spots, outcome_of}
+use Rattle.block.proofs.Meaning.{body_at, SpotsAre, JudgedAs, is_taken, is_refused, is_no_block}
 use Rattle.reading.specs.declared.Reply.{Reply}
-use Rattle.reading.specs.Steps.{ListStep, is_showing, stepped_as, HeldStep, confirmed_by, opens_in, unheld_note, is_done}
+use Rattle.reading.specs.Steps.{ListStep, is_showing, stepped_as, HeldStep, confirmed_by, opens_in, unheld_note}
 use Rattle.reading.specs.Runs.{reply_to, reply_with}
 use Rattle.reading.proofs.HeldLaws.{act_none, act_more, act_start}
 use Rattle.reading.proofs.StepLaws.{at', step_here, step_new, step_full, step_unknown_more, step_unknown_none, store_new, held_state, held_shown, held_number}
-use Rattle.reading.proofs.RunLaws.{done_is, Going, field_now, spot_now, good_now, more_fields, few_fields, few_full, going_next, going_taken, going_refused, step_meets, part_bytes}
-
--- ---- a part of a part
-
-drop_take : {A : Type 0} (a n : ℕ) (xs : List A) → drop a (take n xs) ≡ take (n - a) (drop a xs)
-drop_take zero n xs =
-    let e : n - 0 ≡ n = omega arith in
-    ap (λ (k : ℕ). take k xs) (sym e)
-drop_take (suc a) zero xs = sym (none (suc a) xs)
-  where
-    none : {A : Type 0} (a : ℕ) (xs : List A) → take (0 - a) (drop a xs) ≡ []
-    none a xs =
-        let e : 0 - a ≡ 0 = omega arith in
-        ap (λ (k : ℕ). take k (drop a xs)) e
-drop_take (suc a) (suc n) [] = sym (no_more (suc n - suc a))
-  where
-    no_more : {A : Type 0} (k : ℕ) → ◌≡◌ {A = List A} (take k []) []
-    no_more zero = refl
-    no_more (suc k) = refl
-drop_take (suc a) (suc n) (x ∷ xs) =
-    let e : suc n - suc a ≡ n - a = omega arith in
-    drop_take a n xs ∙ ap (λ (k : ℕ). take k (drop a xs)) (sym e)
-
--- the body that the code hands on is the spot's
-pub body_of : (bytes : List ℕ) (from : ℕ) (s : Spot) → s.start ≤ s.end → s.end ≤ 30
-    → take (from + s.end - (from + s.start)) (drop (from + s.start) bytes) ≡ body_at (take 32 (drop from bytes)) s
-body_of bytes from s o e =
-    let m : from + s.end - (from + s.start) ≡ s.end - s.start = omega arith in
-    let x = drop s.start (drop from bytes) in
-    ap₂ (λ (k : ℕ) (l : List ℕ). take k l) m (sym (drop-drop s.start from bytes))
-    ∙ sym (ap (take (s.end - s.start)) (drop_take s.start 32 (drop from bytes)) ∙ take-take (s.end - s.start) (32 - s.start) x (omega arith))
+use Rattle.reading.proofs.RunLaws.{Going, field_now, spot_now, good_now, few_fields, few_full, going_next, going_taken, going_refused, step_meets}
 
 -- ---- a turn at a field
 
-module _ (bytes : List ℕ) (t₀ t : Table) (reply : Reply) (spots : Spots) (from at i : ℕ) (G : Going bytes t₀ t reply spots from at i)
-    (h : i < spots.count) (body : List ℕ) (body_is : body ≡ body_at (take 32 (drop from bytes)) (get_or spots.spots i no_spot))
-    (f : Field) (f-is : f ≡ field_in body (get_or spots.spots i no_spot).place) (key : ℕ) (ke : key ≡ key_in f) (p : ℕ) (p-is : p ≡ place_in (take t.sets.count t.sets.keys) key) where
-  abbrev at_place : ℕ
-  at_place = (get_or spots.spots i no_spot).place
+-- a table and a note as a step of the rules leaves them, where it keeps the table rules
+abbrev pub Did : Content → FieldOf → Table → Note → Type 0
+Did c g t m =
+    meets (with_sets c (step linkage c.sets (said c.blocks g)).0) ≡ true
+    → (t ≡ store_table (with_sets c (step linkage c.sets (said c.blocks g)).0)) × (m ≡ (step linkage c.sets (said c.blocks g)).1)
 
+did : (c : Content) (g : FieldOf) (t : Table) (m m' : Note) (c' : Entries) → step linkage c.sets (said c.blocks g) ≡ (c', m')
+    → (meets (with_sets c c') ≡ true → t ≡ store_table (with_sets c c')) → m ≡ m' → Did c g t m
+did c g t m m' c' e s q r = (
+  s (subst (λ (x : Entries × Note). meets (with_sets c x.0) ≡ true) e r) ∙ ap (λ (x : Entries × Note). store_table (with_sets c x.0)) (sym e),
+  q ∙ ap (λ (x : Entries × Note). x.1) (sym e),
+)
+
+module _ (t : Table) (now' : Content) (now_meets : meets now' ≡ true) (stored : t ≡ store_table now') where
+  pub table_short : t.sets.count ≤ most_keys
+  table_short = omega (arith, count_of t.sets now'.sets (ap (λ (u : Table). u.sets) stored), ((table_rules now'.sets).0 (sets_meet_law now' now_meets)).short)
+
+  pub place_short : (p k : ℕ) → (ltb p t.sets.count && eqb (get_or t.sets.keys p 0) k) ≡ true → p < most_keys
+  place_short p k b = omega (arith, table_short, ltb-true p t.sets.count (and_left (ltb p t.sets.count) _ b))
+
+module _ (t : Table) (now' : Content) (now_meets : meets now' ≡ true) (stored : t ≡ store_table now') (body : List ℕ) (f : Field) (at_place next : ℕ)
+    (found : field_step_at body at_place ≡ Found f next) (reserved : f.qualifier ≡ 2 → ⊥) (key : ℕ) (ke : key ≡ key_in f) (p : ℕ)
+    (p-is : p ≡ place_in (take t.sets.count t.sets.keys) key) where
   g : FieldOf
-  g = field_now bytes t₀ t reply spots from at i G
+  g = meaning body f
 
   c : Entries
-  c = G.now'.sets
+  c = now'.sets
 
   -- the number of the present block
   n : ℕ
-  n = G.now'.blocks
+  n = now'.blocks
 
   blocks_are : t.blocks ≡ n
   unfolding n
-  blocks_are = ap (λ (u : Table). u.blocks) G.stored
+  blocks_are = ap (λ (u : Table). u.blocks) stored
 
   c_meets : sets_meet c ≡ true
   unfolding c
-  c_meets = sets_meet_law G.now' G.now_meets
+  c_meets = sets_meet_law now' now_meets
 
   sets_are : t.sets ≡ store_sets c
   unfolding c
-  sets_are = ap (λ (u : Table). u.sets) G.stored
+  sets_are = ap (λ (u : Table). u.sets) stored
 
   totals_are : t.totals ≡ sums (shown_sets c)
   unfolding c totals_of
-  totals_are = ap (λ (u : Table). u.totals) G.stored
-
-  spot : SpotIs (take 32 (drop from bytes)) (get_or spots.spots i no_spot) g
-  unfolding g
-  spot = spot_now bytes t₀ t reply spots from at i G h
+  totals_are = ap (λ (u : Table). u.totals) stored
 
   means : meaning body f ≡ g
-  means = ap (meaning body) f-is ∙ ap (λ (b : List ℕ). meaning b (field_in b at_place)) body_is ∙ spot.means
-
-  found : field_step_at body at_place ≡ Found f spot.found.0
-  found =
-      ap (λ (b : List ℕ). field_step_at b at_place) body_is ∙ spot.found.1
-      ∙ ap (λ (y : Field). Found y spot.found.0) (sym (f-is ∙ ap (λ (b : List ℕ). field_in b at_place) body_is))
+  unfolding g
+  means = refl
 
   la_is : eqb f.la 1 ≡ eqb g.la 1
   unfolding meaning
@@ -139,10 +118,6 @@ module _ (bytes : List ℕ) (t₀ t : Table) (reply : Reply) (spots : Spots) (fr
   key_is : key ≡ key_of g
   unfolding meaning key_of
   key_is = ke ∙ ap key_of means
-
-  reserved : f.qualifier ≡ 2 → ⊥
-  unfolding g meaning
-  reserved q = (good_now bytes t₀ t reply spots from at i G h).reserved (sym (ap (λ (x : FieldOf). x.qualifier) means) ∙ q)
 
   -- the key stands at its place, or nowhere
   here : (ltb p t.sets.count && eqb (get_or t.sets.keys p 0) key) ≡ true → Here c (key_of g)
@@ -205,7 +180,7 @@ module _ (bytes : List ℕ) (t₀ t : Table) (reply : Reply) (spots : Spots) (fr
     result : r ≡ stepped_as after
     unfolding HeldStep after
     result =
-        held x (eqb g.la 1) n at_place spot.found.0 found reserved draft_meets draft_is
+        held x (eqb g.la 1) n at_place next found reserved draft_meets draft_is
         ∙ ap (λ (y : FieldOf). stepped_as (on_held linkage x (eqb g.la 1) n (act_of y))) means
 
     -- what is shown then: the list that was open, or the set as it was
@@ -239,38 +214,31 @@ module _ (bytes : List ℕ) (t₀ t : Table) (reply : Reply) (spots : Spots) (fr
         (λ k. set_at (sets_are k) (place k) (state_is k) (number_is m q k) (e k) (result k).draft)
         ∙ sym (store_set c j after.0 within (on_held_key linkage x (eqb g.la 1) n (act_of g)))
 
-    after_meets : sets_meet (set c j after.0) ≡ true
-    unfolding c g j x n after
-    after_meets =
-        sets_meet_law (with_sets G.now' (set c j after.0))
-        (step_meets G.now' (set c j after.0) after.1 g (good_now bytes t₀ t reply spots from at i G h) G.now_meets (step_here n c g (here b)))
-
     -- the totals by what changes: the set that was shown, and the one that is
     abbrev Exchanged : IdList → Totals → Type 0
     Exchanged shown m = m ≡ exchanged_set t.totals (get_or t.sets.shown p past).len (get_or t.sets.on p false) shown.len (eqb f.la 1)
 
-    counted_is : (shown : IdList) → shown ≡ store_maybe after.0.shown → (u : Totals) → Exchanged shown u → u ≡ sums (shown_sets (set c j after.0))
+    counted_is : meets (with_sets now' (set c j after.0)) ≡ true → (shown : IdList) → shown ≡ store_maybe after.0.shown → (u : Totals) → Exchanged shown u → u ≡ sums (shown_sets (set c j after.0))
     unfolding c j x
-    counted_is shown e u q =
+    counted_is m shown e u q =
         q ∙ (λ k. exchanged_set (totals_are k) (shown_is k).len (on_is k) (e k).len (state_is k))
-        ∙ sums_exchanged c c_meets j within after.0 after_meets
+        ∙ sums_exchanged c c_meets j within after.0 (sets_meet_law (with_sets now' (set c j after.0)) m)
 
     turn_with : (shown : IdList) → shown ≡ store_maybe after.0.shown → (m : ℕ) → Confirms m → (u : Totals) → Exchanged shown u
-        → (reply' : Reply) → reply' ≡ reply_with reply i r.note
-        → Going bytes t₀ (table_of (set_at t.sets p (eqb f.la 1) m shown r.draft) u t.blocks) reply' spots from at (i + 1)
+        → Did now' g (table_of (set_at t.sets p (eqb f.la 1) m shown r.draft) u t.blocks) r.note
     unfolding c g j x n after stepped_as totals_of
-    turn_with shown e m w u v reply' q =
-        going_next bytes t₀ t reply spots from at i G h _ reply' after.1 (set c j after.0)
-        (step_here n c g (here b)) (λ k. table_of (stored_is m w shown e k) (counted_is shown e u v k) (blocks_are k)) (q ∙ ap (λ (y : ListStep). reply_with reply i y.note) result)
+    turn_with shown e m w u v =
+        did now' g _ r.note after.1 (set c j after.0) (step_here n c g (here b)) (λ meet. (λ k. table_of (stored_is m w shown e k) (counted_is meet shown e u v k) (blocks_are k)))
+        (ap (λ (y : ListStep). y.note) result)
 
     shown_or : (b : Bool) → cond b (get_or t.sets.draft p past) (get_or t.sets.shown p past) ≡ store_maybe (cond b x.draft x.shown)
     shown_or true = draft_is
     shown_or false = shown_is
 
     pub turn_held : (shown : IdList) → shown ≡ cond r.shows (get_or t.sets.draft p past) (get_or t.sets.shown p past) → (m : ℕ) → Confirms m
-        → (u : Totals) → Exchanged shown u → (reply' : Reply) → reply' ≡ reply_with reply i r.note
-        → Going bytes t₀ (table_of (set_at t.sets p (eqb f.la 1) m shown r.draft) u t.blocks) reply' spots from at (i + 1)
-    turn_held shown e m w u v reply' q = turn_with shown (e ∙ shown_or r.shows ∙ sym shown_then) m w u v reply' q
+        → (u : Totals) → Exchanged shown u → Did now' (meaning body f) (table_of (set_at t.sets p (eqb f.la 1) m shown r.draft) u t.blocks) r.note
+    unfolding g
+    turn_held shown e m w u v = turn_with shown (e ∙ shown_or r.shows ∙ sym shown_then) m w u v
 
   -- ---- a key that is not held
 
@@ -287,90 +255,140 @@ module _ (bytes : List ℕ) (t₀ t : Table) (reply : Reply) (spots : Spots) (fr
     act_is a k e = subst (λ (y : FieldOf). act_of y ≡ k y) means e
 
     -- a start, and room
-    pub turn_new : opens_in f t.sets.count ≡ true → ((n : ℕ) → get_or bytes n 0 < 256) → (l : IdList) (w : Grown) → l ≡ empty_list → w ≡ with_field l body f
-        → (t' : Sets) → t' ≡ opened_sets t.sets p key (eqb f.la 1) w.list → (reply' : Reply) → reply' ≡ reply_with reply i Opened
-        → Going bytes t₀ (table_of t' t.totals t.blocks) reply' spots from at (i + 1)
+    pub turn_new : opens_in f t.sets.count ≡ true → ((i : ℕ) → get_or body i 0 < 256) → (t' : Sets) → t' ≡ opened_sets t.sets p key (eqb f.la 1) (unwrap_or (with_field empty_list body f) empty_list)
+        → Did now' (meaning body f) (table_of t' t.totals t.blocks) Opened
     unfolding c g n opens_in fresh totals_of
-    turn_new open' b256 l w le we t' te reply' q =
+    turn_new open' b256 t' te =
         let has : has_list_in f ≡ true = and_left (has_list_in f) _ (and_left (has_list_in f && not (continues f)) _ open') in
         let starts : continues f ≡ false = not-true (continues f) (and_right (has_list_in f) _ (and_left (has_list_in f && not (continues f)) _ open')) in
         let few : length c < most_keys = subst (λ (n : ℕ). n < most_keys) count_is (ltb-true t.sets.count most_keys (and_right (has_list_in f && not (continues f)) _ open')) in
         let act : act_of g ≡ start (brings g) = act_is no_list (λ y. start (brings y)) (act_start body f has starts) in
-        let list' : w.list ≡ store_list (opening linkage (brings g)) =
-        ap (λ (x : Grown). x.list) (we ∙ ap (λ (x : IdList). with_field x body f) le ∙ with_none body f (inside b256) reserved)
+        let list' : unwrap_or (with_field empty_list body f) empty_list ≡ store_list (opening linkage (brings g)) =
+        ap (λ (x : Option IdList). unwrap_or x empty_list) (with_none body f (field_step_at_range body at_place f next b256 found).field reserved)
         ∙ ap (λ (y : FieldOf). store_list (opening linkage (brings y))) means in
         let new = fresh linkage (key_of g) (eqb g.la 1) (brings g) in
-        going_next bytes t₀ t reply spots from at i G h (table_of t' t.totals t.blocks) reply' Opened (insert linkage new c)
+        did now' g (table_of t' t.totals t.blocks) Opened Opened (insert linkage new c)
         (step_new n c g ascending (nowhere b) act few)
-        (let ss = te ∙ (λ k. opened_sets (sets_are k) p (key_is k) (la_is k) (list' k)) ∙ sym (store_new c (key_of g) p (eqb g.la 1) (brings g) (nowhere b) place few) in
+        (λ _.
+        let ss = te ∙ (λ k. opened_sets (sets_are k) p (key_is k) (la_is k) (list' k)) ∙ sym (store_new c (key_of g) p (eqb g.la 1) (brings g) (nowhere b) place few) in
         let ns = totals_are ∙ sym (sums_opened c new refl (nowhere b)) in
         λ k. table_of (ss k) (ns k) (blocks_are k))
-        q
-      where
-        inside : ((n : ℕ) → get_or bytes n 0 < 256) → InBody body f
-        inside b256 =
-            (field_step_at_range body at_place f spot.found.0
-            (subst (λ (l : List ℕ). (n : ℕ) → get_or l n 0 < 256) (sym body_is) (part_bytes ((get_or spots.spots i no_spot).end - (get_or spots.spots i no_spot).start) (get_or spots.spots i no_spot).start (take 32 (drop from bytes)) (part_bytes 32 from bytes b256)))
-            found).field
+        refl
 
     -- anything else changes nothing
-    same : (m : Note) → step linkage c (said n g) ≡ (c, m) → (reply' : Reply) → reply' ≡ reply_with reply i m → Going bytes t₀ t reply' spots from at (i + 1)
+    same : (m : Note) → step linkage c (said n g) ≡ (c, m) → (m' : Note) → m' ≡ m → Did now' g t m'
     unfolding c g n
-    same m e reply' q = going_next bytes t₀ t reply spots from at i G h t reply' m c e G.stored q
+    same m e m' q = did now' g t m' m c e (λ _. stored) q
 
-    pub turn_same : opens_in f t.sets.count ≡ false → (m : Note) → m ≡ unheld_note f → (reply' : Reply) → reply' ≡ reply_with reply i m → Going bytes t₀ t reply' spots from at (i + 1)
-    unfolding opens_in unheld_note
-    turn_same shut' m ne reply' q =
+    pub turn_same : opens_in f t.sets.count ≡ false → (m : Note) → m ≡ unheld_note f → Did now' (meaning body f) t m
+    unfolding g opens_in unheld_note
+    turn_same shut' m ne =
         cases_bool (has_list_in f)
         (λ has. cases_bool (continues f)
-        (λ more. same UnknownKey (step_unknown_more n c g ascending (nowhere b) (act_is no_list (λ y. continuation (brings y)) (act_more body f has more))) reply'
-        (q ∙ ap (reply_with reply i) (ne ∙ rw (has, more))))
+        (λ more. same UnknownKey (step_unknown_more n c g ascending (nowhere b) (act_is no_list (λ y. continuation (brings y)) (act_more body f has more))) m
+        (ne ∙ rw (has, more)))
         (λ starts.
         let full : most_keys ≤ length c = subst (λ (k : ℕ). most_keys ≤ k) count_is (ltb-false t.sets.count most_keys (rw (has, starts) at shut')) in
-        same Full (step_full n c g ascending (nowhere b) (act_is no_list (λ y. start (brings y)) (act_start body f has starts)) full) reply'
-        (q ∙ ap (reply_with reply i) (ne ∙ rw (has, starts)))))
-        (λ has. same UnknownKey (step_unknown_none n c g ascending (nowhere b) (act_is no_list (λ y. no_list) (act_none body f has))) reply'
-        (q ∙ ap (reply_with reply i) (ne ∙ rw has)))
+        same Full (step_full n c g ascending (nowhere b) (act_is no_list (λ y. start (brings y)) (act_start body f has starts)) full) m
+        (ne ∙ rw (has, starts))))
+        (λ has. same UnknownKey (step_unknown_none n c g ascending (nowhere b) (act_is no_list (λ y. no_list) (act_none body f has))) m
+        (ne ∙ rw has))
 
--- ---- a refused block
+-- ---- a turn at a field
 
--- ---- what keeps the loop's indices within
+-- a field is found in a body, and the rules take it into a content
+pub record Facts (c : Content) (body : List ℕ) (f : Field) : Type 0 where
+  pub place : ℕ
+  pub next : ℕ
+  pub found : field_step_at body place ≡ Found f next
+  pub reserved : f.qualifier ≡ 2 → ⊥
+  pub rules : meets (with_sets c (step linkage c.sets (said c.blocks (meaning body f))).0) ≡ true
 
-pub record Fits' (bytes : List ℕ) (reply : Reply) (spots : Spots) (from i : ℕ) : Type 0 where
+-- what keeps the loop's indices within
+
+pub record Fits' (bytes : List ℕ) (reply : Reply) (spots : Spots) (i : ℕ) : Type 0 where
   pub ordered : (get_or spots.spots i no_spot).start ≤ (get_or spots.spots i no_spot).end
   pub inside : (get_or spots.spots i no_spot).end ≤ 30
-  pub block : from + 32 ≤ length bytes
   pub few : i < 14
   pub full : reply.full < length bytes
 
-module _ (bytes : List ℕ) (t₀ t : Table) (reply : Reply) (spots : Spots) (from at i : ℕ) (G : Going bytes t₀ t reply spots from at i) where
-  pub fits_now : i < spots.count → Fits' bytes reply spots from i
-  fits_now h =
+module _ (bytes : List ℕ) (t₀ t : Table) (reply : Reply) (spots : Spots) (from at i : ℕ) (G : Going bytes t₀ t reply spots from at i) (h : i < spots.count) where
+  pub fits_now : Fits' bytes reply spots i
+  fits_now =
       let s = spot_now bytes t₀ t reply spots from at i G h in
-      record {
-        ordered = s.ordered;
-        inside = s.inside;
-        block = G.inside (omega (arith, more_fields bytes t₀ t reply spots from at i G h));
-        few = few_fields bytes t₀ t reply spots from at i G h;
-        full = few_full bytes t₀ t reply spots from at i G h;
-      }
+      record { ordered = s.ordered; inside = s.inside; few = few_fields bytes t₀ t reply spots from at i G h; full = few_full bytes t₀ t reply spots from at i G h }
 
-  pub table_short : t.sets.count ≤ most_keys
-  table_short = omega (arith, count_of t.sets G.now'.sets (ap (λ (u : Table). u.sets) G.stored), ((table_rules G.now'.sets).0 (sets_meet_law G.now' G.now_meets)).short)
+  module _ (body : List ℕ) (body_is : body ≡ body_at (take 32 (drop from bytes)) (get_or spots.spots i no_spot)) (f : Field) (f-is : f ≡ field_in body (get_or spots.spots i no_spot).place) where
+    -- the present field is found in its body, and the rules take it
+    pub going_facts : Facts G.now' body f
+    unfolding meaning
+    going_facts =
+        let spot = spot_now bytes t₀ t reply spots from at i G h in
+        let good = good_now bytes t₀ t reply spots from at i G h in
+        let g = field_now bytes t₀ t reply spots from at i G in
+        let place = (get_or spots.spots i no_spot).place in
+        let means : meaning body f ≡ g = ap (meaning body) f-is ∙ ap (λ (b : List ℕ). meaning b (field_in b place)) body_is ∙ spot.means in
+        record {
+          place = place;
+          next = spot.found.0;
+          found =
+              ap (λ (b : List ℕ). field_step_at b place) body_is ∙ spot.found.1
+              ∙ ap (λ (y : Field). Found y spot.found.0) (sym (f-is ∙ ap (λ (b : List ℕ). field_in b place) body_is));
+          reserved = λ q. good.reserved (sym (ap (λ (x : FieldOf). x.qualifier) means) ∙ q);
+          rules =
+              let m = step linkage G.now'.sets (said G.now'.blocks g) in
+              subst (λ (x : FieldOf). meets (with_sets G.now' (step linkage G.now'.sets (said G.now'.blocks x)).0) ≡ true) (sym means) (step_meets G.now' m.0 m.1 g good G.now_meets refl);
+        }
 
-  pub place_short : (p k : ℕ) → (ltb p t.sets.count && eqb (get_or t.sets.keys p 0) k) ≡ true → p < most_keys
-  place_short p k b = omega (arith, table_short, ltb-true p t.sets.count (and_left (ltb p t.sets.count) _ b))
+    -- a turn at it, as the rules take it
+    pub going_took : (t' : Table) (m : Note) → (t' ≡ store_table (with_sets G.now' (step linkage G.now'.sets (said G.now'.blocks (meaning body f))).0)) → m ≡ (step linkage G.now'.sets (said G.now'.blocks (meaning body f))).1
+        → (reply' : Reply) → reply' ≡ reply_with reply i m → Going bytes t₀ t' reply' spots from at (i + 1)
+    going_took t' m te me reply' q =
+        let spot = spot_now bytes t₀ t reply spots from at i G h in
+        let g = field_now bytes t₀ t reply spots from at i G in
+        let place = (get_or spots.spots i no_spot).place in
+        let means : meaning body f ≡ g = ap (meaning body) f-is ∙ ap (λ (b : List ℕ). meaning b (field_in b place)) body_is ∙ spot.means in
+        let after = step linkage G.now'.sets (said G.now'.blocks (meaning body f)) in
+        going_next bytes t₀ t reply spots from at i G h t' reply' after.1 after.0 (ap (λ (x : FieldOf). step linkage G.now'.sets (said G.now'.blocks x)) (sym means)) te (q ∙ ap (reply_with reply i) me)
 
--- a judged block has at most 14 spots
-pub judged_few : (fib : List ℕ) (r : Judged) → JudgedAs fib (verdict fib) r → r.spots.count ≤ 14
-judged_few fib r (is_taken fs v d e p) = omega (arith, p.count, p.few)
-judged_few fib r (is_refused o q v d e z) = omega arith
-judged_few fib r (is_no_block v d e z) = omega arith
+-- ---- what a judged block says, taken or refused
+
+spots_in : Result Spots Refused → Spots → Spots
+spots_in (Ok s) d = s
+spots_in (Err r) d = d
+
+refused_in : Result Spots Refused → Refused → Refused
+refused_in (Ok s) d = d
+refused_in (Err r) d = r
+
+-- taken: all its fields
+judged_taken : {fib : List ℕ} {v : Verdict} {spots : Spots} → JudgedAs fib v (Ok spots) → (fs : List FieldOf) × (v ≡ taken fs) × SpotsAre fib spots fs
+unfolding spots_in
+judged_taken {fib} {spots = spots} (is_taken fs v s e p) = (fs, v, subst (λ (x : Spots). SpotsAre fib x fs) (sym (ap (λ (r : Result Spots Refused). spots_in r spots) e)) p)
+judged_taken (is_refused f v e) = absurd (true≢false (ap is_ok e))
+judged_taken (is_no_block v e) = absurd (true≢false (ap is_ok e))
+
+-- refused, and 32 bytes long: the outcome of its fault, at its place
+judged_refused : {fib : List ℕ} {v : Verdict} {r : Refused} → (v ≡ no_block → ⊥) → JudgedAs fib v (Err r) → v ≡ refused (outcome_of r.fault) r.place
+unfolding refused_in
+judged_refused never (is_taken fs v s e p) = absurd (true≢false (sym (ap is_ok e)))
+judged_refused {r = r} n (is_refused f v e) =
+    v ∙ ap (λ (x : Result Spots Refused). refused (outcome_of (refused_in x r).fault) (refused_in x r).place) (sym e)
+judged_refused never (is_no_block v e) = absurd (never v)
+
+-- a taken block has at most 14 spots
+pub judged_few : {fib : List ℕ} {spots : Spots} → JudgedAs fib (verdict fib) (Ok spots) → spots.count ≤ 14
+judged_few w = let p = (judged_taken w).2 in omega (arith, p.count, p.few)
+
+-- a refused one has none
+pub no_count : {s : Spots} → s ≡ no_spots → s.count ≡ 0
+unfolding no_spots
+no_count e = ap (λ (x : Spots). x.count) e
 
 -- a turn at a block: taken, or refused with every open list dropped
 module _ (bytes : List ℕ) (t₀ t : Table) (reply : Reply) (spots : Spots) (from at i : ℕ) (G : Going bytes t₀ t reply spots from at i)
     (h : spots.count ≤ i) (l : 32 ≤ length bytes - at) (b256 : (n : ℕ) → get_or bytes n 0 < 256)
-    (part : List ℕ) (part-is : part ≡ take 32 (drop at bytes)) (r : Judged) (reply' : Reply) (reply-is : reply' ≡ reply_to reply r.outcome r.place) where
+    (part : List ℕ) (part-is : part ≡ take 32 (drop at bytes)) (reply' : Reply) where
   fib : List ℕ
   fib = take 32 (drop at bytes)
 
@@ -390,22 +408,19 @@ module _ (bytes : List ℕ) (t₀ t : Table) (reply : Reply) (spots : Spots) (fr
       ap₂ (λ (u : Table) (x : IdList). table_of (with_draft u.sets (replicate most_keys x)) u.totals (next_block u.blocks)) G.stored ne
       ∙ ap₂ (λ (s : Sets) (u : Totals). table_of s u (next_block G.now'.blocks)) (sym (store_closed G.now'.sets few)) (ap sums (sym (shown_closed G.now'.sets)))
 
-  pub turn_taken : JudgedAs part (verdict part) r → is_done r.outcome ≡ true
-      → Going bytes t₀ (table_of t.sets t.totals (next_block t.blocks)) reply' r.spots at (at + 32) 0
-  turn_taken (is_taken fs v d e p) y =
-      going_taken bytes t₀ t reply spots from at i G h l b256 fs _ r.spots reply' (ap verdict (sym part-is) ∙ v) (subst (λ (x : List ℕ). SpotsAre x r.spots fs) part-is p)
-      (reply-is ∙ ap₂ (reply_to reply) d e) (unfold totals_of in ap (λ (u : Table). table_of u.sets u.totals (next_block u.blocks)) G.stored)
-  turn_taken (is_refused q w v d e z) y = absurd (refused_not_done part q w v (done_is q (sym (ap is_done d) ∙ y)))
-  turn_taken (is_no_block v d e z) y = absurd (never_none v)
+  pub turn_taken : (spots' : Spots) → JudgedAs part (verdict part) (Ok spots') → reply' ≡ reply_to reply Done 0
+      → Going bytes t₀ (table_of t.sets t.totals (next_block t.blocks)) reply' spots' at (at + 32) 0
+  turn_taken spots' j reply-is =
+      let w = judged_taken j in
+      going_taken bytes t₀ t reply spots from at i G h l b256 w.0 _ spots' reply' (ap verdict (sym part-is) ∙ w.1) (subst (λ (x : List ℕ). SpotsAre x spots' w.0) part-is w.2)
+      reply-is (unfold totals_of in ap (λ (u : Table). table_of u.sets u.totals (next_block u.blocks)) G.stored)
 
-  pub turn_refused : JudgedAs part (verdict part) r → is_done r.outcome ≡ false → (none'' : IdList) → none'' ≡ empty_list
-      → Going bytes t₀ (table_of (with_draft t.sets (replicate most_keys none'')) t.totals (next_block t.blocks)) reply' r.spots at (at + 32) 0
-  unfolding is_done
-  turn_refused (is_taken fs v d e p) y n ne = absurd (true≢false (sym (ap is_done d) ∙ y))
-  turn_refused (is_refused q w v d e z) y n ne =
-      going_refused bytes t₀ t reply spots from at i G h l _ r.spots reply' q w (ap verdict (sym part-is) ∙ v) (reply-is ∙ ap₂ (reply_to reply) d e) z
+  pub turn_refused : (r : Refused) → JudgedAs part (verdict part) (Err r) → reply' ≡ reply_to reply (outcome_of r.fault) r.place
+      → (none' : Spots) → none'.count ≡ 0 → (none'' : IdList) → none'' ≡ empty_list
+      → Going bytes t₀ (table_of (with_draft t.sets (replicate most_keys none'')) t.totals (next_block t.blocks)) reply' none' at (at + 32) 0
+  turn_refused r j reply-is none' z n ne =
+      going_refused bytes t₀ t reply spots from at i G h l _ none' reply' (outcome_of r.fault) r.place (ap verdict (sym part-is) ∙ judged_refused never_none j) reply-is z
       (closed_table n ne)
-  turn_refused (is_no_block v d e z) y n ne = absurd (never_none v)
 
 -- the block that the code hands on
 pub block_part : (bytes : List ℕ) (at : ℕ) → take (at + 32 - at) (drop at bytes) ≡ take 32 (drop at bytes)

@@ -1,16 +1,13 @@
 -- The lists of a table laid out in columns while blocks are read: 128 places to a row, a row to a key. Places past a row's length
 -- mean nothing; a row as a list is the stored form of its first places.
-use Rattle.std.specs.Prelude.{ℕ, ◌*◌, ◌<◌, min, ◌≡◌, Bool, true, false, cond, List, [], ◌∷◌, map, length, get_or, take, drop, replicate}
+use Rattle.std.specs.Prelude.{ℕ, ◌*◌, ◌<◌, min, ◌≡◌, true, false, cond, List, [], ◌∷◌, map, length, get_or, take, drop, replicate, Option, Some, None}
 use Rattle.rules.specs.Collecting.{most_keys, most_ids}
 use Rattle.rules.specs.Arrays.{padded}
 use Rattle.field.specs.declared.Field.{Field}
 use Rattle.lists.specs.declared.IdList.{IdList}
-use Rattle.lists.specs.declared.Grown.{Grown}
-use Rattle.sets.specs.declared.Sets.{Sets}
-use Rattle.sets.specs.Stored.{with_lists, past}
+use Rattle.sets.specs.Stored.{past}
 use Rattle.reading.specs.declared.rows.Row.{Row}
 use Rattle.reading.specs.declared.rows.Rows.{Rows}
-use Rattle.reading.specs.declared.rows.Appended.{Appended}
 use Rattle.reading.specs.declared.rows.Stepped.{Stepped}
 use Rattle.reading.specs.Steps.{is_showing, HeldStep}
 
@@ -35,10 +32,6 @@ gathered ns ks rows = row_lists ns ks rows.lens rows.names
 unfoldable pub no_rows : Rows
 no_rows = record { lens = replicate most_keys 0; names = replicate most_keys 0; changed = replicate most_keys true }
 
--- sets with these states and numbers and the lists of these rows
-unfoldable pub sets_of : Sets → List Bool → List ℕ → List ℕ → List ℕ → Rows → List ℕ → List ℕ → Rows → Sets
-sets_of t on confirmed sn sk s dn dk d = with_lists t on confirmed (gathered sn sk s) (gathered dn dk d)
-
 -- the first 128 places of a list, in the stored form
 unfoldable pub packed : IdList → IdList
 packed l = row_list l.numbers l.kinds (record { len = min l.len most_ids; named = l.named })
@@ -60,9 +53,10 @@ pub record Laid (lists : List IdList) (rows : Rows) (ns ks : List ℕ) : Type 0 
 abbrev pub Unchanged : List IdList → List ℕ → List ℕ → Rows → Type 0
 Unchanged lists ns ks rows = (p : ℕ) → p < most_keys → get_or rows.changed p false ≡ false → get_or lists p past ≡ get_or (gathered ns ks rows) p past
 
--- what adding to a row leaves, as a list
-unfoldable pub appended_as : Appended → List ℕ → List ℕ → Grown
-appended_as r ns ks = record { fits = r.fits; list = row_list ns ks r.row }
+-- what adding to a row leaves, as a list; none where not all fit
+unfoldable pub appended_as : Option Row → List ℕ → List ℕ → Option IdList
+appended_as (Some r) ns ks = Some (row_list ns ks r)
+appended_as None ns ks = None
 
 -- a field of a held key on its rows, shown and open: what the rules say of the open list, and where the note says so the list that was
 -- open is shown

@@ -4,52 +4,54 @@
 
 #![tactic(auto)]
 
-ghost use Rattle.std.specs.Prelude.{◌≡◌, not, ◌+◌, ◌<◌, length, eqb};
+ghost use Rattle.std.specs.Prelude.{◌≡◌, unwrap_or, not, ◌&&◌, ◌+◌, ◌<◌, ◌≤◌, get_or, eqb};
+ghost use Rattle.field.specs.FieldStep.{has_list_in, continues};
 ghost use Rattle.rules.specs.Block.{bit};
-ghost use Rattle.rules.specs.Collecting.{next_block};
+ghost use Rattle.rules.specs.Collecting.{next_block, most_keys, most_ids};
 ghost use Rattle.rules.specs.Outcomes.{read_block, is_full};
 ghost use Rattle.table.specs.Stored.{Stored, Given};
 ghost use Rattle.sets.specs.Stored.{opened_sets};
 ghost use Rattle.lists.specs.Grown.{with_field};
 ghost use Rattle.lists.specs.Stored.{empty_list};
 ghost use Rattle.reading.specs.Steps.{opens_in, unheld_note, confirmed_by, no_notes, noted_at, is_done};
-ghost use Rattle.reading.specs.Gathered.{places, sets_of, Unchanged};
+ghost use Rattle.reading.specs.Desks.{sets_of, LaidOut, Shelved, Ready, Exchanges, Takes};
 ghost use Rattle.reading.specs.Runs.{no_reply, reply_to, reply_with, Runs, run_as, refused_table, recorded_as, unrecorded};
 
 mod rows;
 
-use block::Spots;
 use field::Field;
 use lists::IdList;
-use rows::Rows;
+use rows::{Column, Rows};
 use rules::{Note, Outcome};
 use sets::Sets;
 use table::Table;
+use totals::Totals;
+
+// Whether a field is a start: it has a list, and continues none.
+fn is_start(f: Field) -> bool
+    ensures { result ≡ (has_list_in f && not (continues f)) }
+{
+    f.has_list() && !f.is_continuation()
+}
 
 // Whether a field of a key that is not held opens a list: a start, and room for one key more.
+#[tactic(auto, unfolding(crate::specs::Steps::opens_in))]
 fn opens(f: Field, count: usize) -> bool
     ensures { result ≡ opens_in f count }
 {
-    if !f.has_list() {
-        return false;
-    }
-    if f.is_continuation() {
-        return false;
-    }
-    count < Table::KEYS
+    is_start(f) && count < Table::KEYS
 }
 
 // The note of a field that changes nothing: a start that finds no room, or an unknown key.
+#[tactic(auto, unfolding(crate::specs::Steps::unheld_note))]
 fn unheld_note(f: Field) -> Note
     ensures { result ≡ unheld_note f }
 {
-    if !f.has_list() {
-        return Note::UnknownKey;
+    if is_start(f) {
+        Note::Full
+    } else {
+        Note::UnknownKey
     }
-    if f.is_continuation() {
-        return Note::UnknownKey;
-    }
-    Note::Full
 }
 
 // One note of a block.
@@ -59,6 +61,7 @@ pub struct Noted {
 }
 
 // The notes of a taken block, one a field: the first `count` places.
+// Kept: an array with its count, for notes stand in fixed memory, with no heap.
 #[derive(Clone, Copy)]
 pub struct Notes {
     pub notes: [Noted; 14],
@@ -88,35 +91,12 @@ impl Notes {
     }
 }
 
-// Whether a block was taken.
-fn is_done(outcome: Outcome) -> bool
-    ensures { result ≡ is_done outcome }
-{
-    match outcome {
-        Outcome::Done => true,
-        _ => false,
-    }
-}
-
-// Whether a start found no room.
-fn is_full(note: Note) -> bool
-    ensures { result ≡ is_full note }
-{
-    match note {
-        Note::Full => true,
-        _ => false,
-    }
-}
-
 // How many starts found no room, with one note more.
 fn with_start(full: usize, note: Note) -> usize
     requires { full < 18446744073709551615 }
     ensures { result ≡ full + bit (is_full note) }
 {
-    if is_full(note) {
-        return full + 1;
-    }
-    full
+    full + usize::from(note == Note::Full)
 }
 
 // How many blocks were refused, with one more of this outcome.
@@ -124,34 +104,31 @@ fn with_refusal(refused: usize, outcome: Outcome) -> usize
     requires { refused < 18446744073709551615 }
     ensures { result ≡ refused + bit (not (is_done outcome)) }
 {
-    if is_done(outcome) {
-        return refused;
-    }
-    refused + 1
+    refused + usize::from(outcome != Outcome::Done)
 }
 
 // The number of the block after so many: blocks are numbered from 1, and the number stops.
+#[tactic(auto, unfolding(rules::specs::Collecting::next_block))]
 fn next_block(blocks: u32) -> u32
     ensures { result ≡ next_block blocks }
 {
-    if blocks < Table::BLOCKS {
-        return blocks + 1;
-    }
-    Table::BLOCKS
+    blocks.saturating_add(1)
 }
 
 // The number of a held key's set after a field with this note in the block of this number: at a showing, the block's.
 fn confirmed_by(note: Note, before: u32, block: u32) -> u32
     ensures { result ≡ confirmed_by note before block }
 {
-    match note {
-        Note::ShownAndOpened => block,
-        _ => before,
+    if note == Note::ShownAndOpened {
+        block
+    } else {
+        before
     }
 }
 
 // The answer to a block: its outcome, the place where a refused block broke and else 0, one note a field where it is taken, and
 // the table then.
+// Kept: no Result, for a refused block leaves a place and a table too (read_block_refused, read_block_place of crate promises).
 #[derive(Clone, Copy)]
 pub struct Answer {
     pub outcome: Outcome,
@@ -192,9 +169,9 @@ impl Reply {
         Reply {
             outcome,
             place,
-            full: self.full,
             refused: with_refusal(self.refused, outcome),
             notes: Notes::none(),
+            ..self
         }
     }
 
@@ -203,14 +180,10 @@ impl Reply {
         requires { (at < 14) × (self.full < 18446744073709551615) }
         ensures { result ≡ reply_with self at note }
     {
-        let outcome = self.outcome;
-        let notes = self.notes;
         Reply {
-            outcome,
-            place: self.place,
             full: with_start(self.full, note),
-            refused: self.refused,
-            notes: notes.noted(at, note),
+            notes: self.notes.noted(at, note),
+            ..self
         }
     }
 
@@ -218,12 +191,10 @@ impl Reply {
     fn answer(self, table: Table) -> Answer
         ensures { result ≡ record { outcome = self.outcome; place = self.place; notes = self.notes; table = table } }
     {
-        let outcome = self.outcome;
-        let notes = self.notes;
         Answer {
-            outcome,
+            outcome: self.outcome,
             place: self.place,
-            notes,
+            notes: self.notes,
             table,
         }
     }
@@ -236,138 +207,155 @@ struct Run {
     table: Table,
 }
 
-// The sets that were laid out, as they are now: on or off, shown in the rows of `sn` and `sk`, with open lists in those of `dn` and `dk`.
-fn sets_of<'a>(
+// A table on the desk, while blocks are read into it: its sets as they were laid out, and since then their states and numbers, the
+// lists in columns, the totals and the blocks.
+#[derive(Clone, Copy)]
+struct Desk {
     laid: Sets,
     on: [bool; Table::KEYS],
     confirmed: [u32; Table::KEYS],
-    sn: &'a [u32],
-    sk: &'a [u8],
-    shown: Rows,
-    dn: &'a [u32],
-    dk: &'a [u8],
-    draft: Rows,
-) -> Sets
-    requires { (length sn.now ≡ places) × (length sk.now ≡ places) × (length dn.now ≡ places) × (length dk.now ≡ places)
-        × Unchanged laid.shown sn.now sk.now shown × Unchanged laid.draft dn.now dk.now draft }
-    ensures { result ≡ sets_of laid on confirmed sn.now sk.now shown dn.now dk.now draft }
-{
-    let lists = laid.shown;
-    let set_lists = rows::gather(lists, sn, sk, shown);
-    let lists = laid.draft;
-    let open_lists = rows::gather(lists, dn, dk, draft);
-    let mut sets = laid;
-    sets.on = on;
-    sets.confirmed = confirmed;
-    sets.shown = set_lists;
-    sets.draft = open_lists;
-    sets
+    shown: Column,
+    draft: Column,
+    totals: Totals,
+    blocks: u32,
 }
 
 // Sets with the key of a field that starts a list.
 fn opened(sets: Sets, at: usize, key: u32, body: &[u8], f: Field) -> Sets
-    ensures { result ≡ opened_sets sets at key (eqb f.la 1) (with_field empty_list body.now f).list }
+    ensures { result ≡ opened_sets sets at key (eqb f.la 1) (unwrap_or (with_field empty_list body.now f) empty_list) }
 {
-    let first = IdList::empty().with_field(body, f);
-    let list = first.list;
+    let list = IdList::empty()
+        .with_field(body, f)
+        .unwrap_or(IdList::empty());
     sets.opened_at(at, key, f.la == 1, list)
 }
 
-// Reads the whole blocks of some bytes in order, field by field: a turn takes one field of the present block, or judges
-// the next block. Meanwhile the lists stand in rows: numbers and kinds of the sets in `sn` and `sk`, of the open lists
-// in `dn` and `dk`. These arrays are locals, so that a field's rows can be lent and no list is copied for it.
+impl Desk {
+    // Sets laid out, with totals and blocks.
+    fn of(sets: Sets, totals: Totals, blocks: u32) -> Self
+        ensures { LaidOut sets totals blocks result }
+    {
+        let on = sets.on;
+        let confirmed = sets.confirmed;
+        Desk {
+            laid: sets,
+            on,
+            confirmed,
+            shown: Column::of(&sets.shown),
+            draft: Column::of(&sets.draft),
+            totals,
+            blocks,
+        }
+    }
+
+    // The sets as they are now.
+    fn sets(&self) -> Sets
+        requires { Shelved self.now }
+        ensures { result ≡ sets_of self.now }
+    {
+        let mut sets = self.laid;
+        let on = self.on;
+        let confirmed = self.confirmed;
+        sets.on = on;
+        sets.confirmed = confirmed;
+        self.shown.gather(&mut sets.shown);
+        self.draft.gather(&mut sets.draft);
+        sets
+    }
+
+    // A field of the key at a place: its note.
+    fn exchange(&mut self, p: usize, body: &[u8], f: Field) -> Note
+        requires { Shelved self.old × (p < most_keys) × (get_or self.old.draft.rows.lens p 0 ≤ most_ids) }
+        ensures { Exchanges self.old p body.now f self.new result }
+    {
+        let a = p * IdList::MOST;
+        let e = a + IdList::MOST;
+        let row = self.shown.rows.at(p);
+        let held = rows::on_held(
+            &mut self.shown.numbers[a..e],
+            &mut self.shown.kinds[a..e],
+            row,
+            &mut self.draft.numbers[a..e],
+            &mut self.draft.kinds[a..e],
+            self.draft.rows.at(p),
+            body,
+            f,
+        );
+        let on = f.la == 1;
+        self.totals = self
+            .totals
+            .exchanged(row.len, self.on[p], held.shown.len, on);
+        self.confirmed[p] = confirmed_by(held.note, self.confirmed[p], self.blocks);
+        self.shown.rows.put(p, held.shown, true);
+        self.draft.rows.put(p, held.draft, true);
+        self.on[p] = on;
+        held.note
+    }
+
+    // A start of a new key, at its place: all sets are laid out anew with its list.
+    fn open(&mut self, p: usize, key: u32, body: &[u8], f: Field)
+        requires { Shelved self.old }
+        ensures { LaidOut (opened_sets (sets_of self.old) p key (eqb f.la 1) (unwrap_or (with_field empty_list body.now f) empty_list)) self.old.totals self.old.blocks self.new }
+    {
+        let sets = opened(self.sets(), p, key, body, f);
+        let on = sets.on;
+        let confirmed = sets.confirmed;
+        self.laid = sets;
+        self.on = on;
+        self.confirmed = confirmed;
+        self.shown.lay(&sets.shown);
+        self.draft.lay(&sets.draft);
+    }
+
+    // A field of a taken block, in its FIG's body: its note.
+    fn take(&mut self, body: &[u8], f: Field) -> Note
+        requires { Ready self.old }
+        ensures { Takes self.old body.now f self.new result }
+    {
+        let key = f.key();
+        let count = self.laid.count;
+        let p = sets::place_of(&self.laid.keys, count, key);
+        if sets::stands_at(&self.laid.keys, count, p, key) {
+            return self.exchange(p, body, f);
+        }
+        if !opens(f, count) {
+            return unheld_note(f);
+        }
+        self.open(p, key, body, f);
+        Note::Opened
+    }
+}
+
+// Reads the whole blocks of some bytes in order: each is judged, and each field of a taken one goes onto the desk.
 fn run_blocks(table: Table, bytes: &[u8]) -> Run
     requires { Stored table }
     ensures { Runs table bytes.now result }
 {
-    let mut sn = [0u32; rows::PLACES];
-    let mut sk = [0u8; rows::PLACES];
-    let mut dn = [0u32; rows::PLACES];
-    let mut dk = [0u8; rows::PLACES];
-    let mut laid = table.sets;
-    let mut totals = table.totals;
-    let lists = laid.shown;
-    let mut shown = rows::scatter(lists, &mut sn, &mut sk);
-    let lists = laid.draft;
-    let mut draft = rows::scatter(lists, &mut dn, &mut dk);
-    let mut on = laid.on;
-    let mut confirmed = laid.confirmed;
-    let mut blocks = table.blocks;
-    let closed = Rows::none();
+    let mut desk = Desk::of(table.sets, table.totals, table.blocks);
     let mut reply = Reply::none();
-    let mut spots = block::no_spots();
-    let mut from = 0;
-    let mut at = 0;
-    let mut i = 0;
-    loop {
-        if i < spots.count {
-            let spot = spots.spots[i];
-            let start = from + spot.start as usize;
-            let end = from + spot.end as usize;
-            let f = spot.field(&bytes[start..end]);
-            let key = f.key();
-            let count = laid.count;
-            let p = sets::place_of(&laid.keys, count, key);
-            if sets::stands_at(&laid.keys, count, p, key) {
-                let a = p * IdList::MOST;
-                let e = a + IdList::MOST;
-                let held = rows::on_held(
-                    &mut sn[a..e],
-                    &mut sk[a..e],
-                    rows::row_at(&shown.lens, &shown.names, p),
-                    &mut dn[a..e],
-                    &mut dk[a..e],
-                    rows::row_at(&draft.lens, &draft.names, p),
-                    &bytes[start..end],
-                    f,
-                );
-                let note = held.note;
-                totals = totals.exchanged(shown.lens[p], on[p], held.shown.len, f.la == 1);
-                confirmed[p] = confirmed_by(note, confirmed[p], blocks);
-                shown.lens[p] = held.shown.len;
-                shown.names[p] = held.shown.named;
-                shown.changed[p] = true;
-                draft.lens[p] = held.draft.len;
-                draft.names[p] = held.draft.named;
-                draft.changed[p] = true;
-                on[p] = f.la == 1;
-                reply = reply.noted(i, note);
-                i += 1;
-            } else if opens(f, count) {
-                let now = sets_of(laid, on, confirmed, &sn, &sk, shown, &dn, &dk, draft);
-                laid = opened(now, p, key, &bytes[start..end], f);
-                on = laid.on;
-                confirmed = laid.confirmed;
-                let lists = laid.shown;
-                shown = rows::scatter(lists, &mut sn, &mut sk);
-                let lists = laid.draft;
-                draft = rows::scatter(lists, &mut dn, &mut dk);
-                reply = reply.noted(i, Note::Opened);
-                i += 1;
-            } else {
-                reply = reply.noted(i, unheld_note(f));
-                i += 1;
+    for b in 0..bytes.len() / 32 {
+        let at = 32 * b;
+        let fib = &bytes[at..at + 32];
+        desk.blocks = next_block(desk.blocks);
+        match block::judge(fib) {
+            Err(refused) => {
+                reply = reply.to(Outcome::from(refused.fault), refused.place);
+                desk.draft.rows = Rows::none();
             }
-        } else {
-            if bytes.len() - at < 32 {
-                let left = sets_of(laid, on, confirmed, &sn, &sk, shown, &dn, &dk, draft);
-                return Run {
-                    reply,
-                    table: Table::of(left, totals, blocks),
-                };
-            }
-            from = at;
-            at += 32;
-            blocks = next_block(blocks);
-            let judged = block::judge(&bytes[from..at]);
-            let outcome = judged.outcome;
-            reply = reply.to(outcome, judged.place);
-            spots = judged.spots;
-            i = 0;
-            if !is_done(outcome) {
-                draft = closed;
+            Ok(found) => {
+                reply = reply.to(Outcome::Done, 0);
+                for i in 0..found.count {
+                    let spot = found.spots[i];
+                    let body = &fib[spot.start as usize..spot.end as usize];
+                    let note = desk.take(body, spot.field(body));
+                    reply = reply.noted(i, note);
+                }
             }
         }
+    }
+    Run {
+        reply,
+        table: Table::of(desk.sets(), desk.totals, desk.blocks),
     }
 }
 
@@ -392,13 +380,12 @@ pub fn read_block(table: Table, fib: &[u8]) -> Answer
         };
     }
     let run = run_blocks(table, fib);
-    let left = run.table;
-    let reply = run.reply;
-    reply.answer(left)
+    run.reply.answer(run.table)
 }
 
 // What reading a whole recording leaves: 0 or 9, how many bytes were left over, how many starts found no room, how many blocks were
 // refused, and the table.
+// Kept: no Result, for a refused table is handed back with the counts, and a recording of refused blocks leaves them too (`unrecorded`).
 #[derive(Clone, Copy)]
 pub struct Recorded {
     pub outcome: Outcome,
@@ -422,12 +409,11 @@ pub fn read_recording(table: Table, bytes: &[u8]) -> Recorded
         };
     }
     let run = run_blocks(table, bytes);
-    let left = run.table;
     Recorded {
         outcome: Outcome::Done,
         rest: bytes.len() % 32,
         full: run.reply.full,
         refused: run.reply.refused,
-        table: left,
+        table: run.table,
     }
 }

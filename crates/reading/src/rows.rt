@@ -2,14 +2,14 @@
 // all 32 lists in one array, the kinds in another, 128 places to a row. A function is lent the rows that it works on.
 // Places past a row's length mean nothing here; gathering makes them zero again. See specs/Gathered.antt.
 
-ghost use Rattle.std.specs.Prelude.{◌≡◌, ◌<◌, ◌≤◌, length, take, get_or};
-ghost use Rattle.rules.specs.Collecting.{most_ids};
+ghost use Rattle.std.specs.Prelude.{◌≡◌, ◌<◌, ◌≤◌, length, take, get_or, set};
+ghost use Rattle.rules.specs.Collecting.{most_ids, most_keys};
 ghost use Rattle.rules.specs.Outcomes.{overwritten};
 ghost use Rattle.lists.specs.Grown.{with_field};
-ghost use Rattle.reading.specs.Gathered.{places, no_rows, row_list, gathered, packed, Laid, Unchanged, appended_as, RowStep};
+ghost use Rattle.reading.specs.Gathered.{no_rows, row_list, gathered, packed, Laid, Unchanged, appended_as, RowStep};
 
 use field::Field;
-use lists::IdList;
+use lists::{IdList, Pairs};
 use rules::Note;
 use table::Table;
 
@@ -21,6 +21,15 @@ pub(crate) const PLACES: usize = Table::KEYS * IdList::MOST;
 pub(crate) struct Row {
     pub(crate) len: usize,
     pub(crate) named: u8,
+}
+
+impl Row {
+    // No list.
+    fn none() -> Self
+        ensures { result ≡ record { len = 0; named = 0 } }
+    {
+        Row { len: 0, named: 0 }
+    }
 }
 
 // The same of all 32 rows, and which may differ from the lists that were laid out in them.
@@ -42,90 +51,69 @@ impl Rows {
             changed: [true; Table::KEYS],
         }
     }
-}
 
-// One of them.
-pub(crate) fn row_at<'a>(lens: &'a [usize], names: &'a [u8], p: usize) -> Row
-    requires { (p < length lens.now) × (p < length names.now) }
-    ensures { result ≡ record { len = get_or lens.now p 0; named = get_or names.now p 0 } }
-{
-    Row {
-        len: lens[p],
-        named: names[p],
+    // One of them.
+    pub(crate) fn at(&self, p: usize) -> Row
+        requires { p < most_keys }
+        ensures { result ≡ record { len = get_or self.now.lens p 0; named = get_or self.now.names p 0 } }
+    {
+        Row {
+            len: self.lens[p],
+            named: self.names[p],
+        }
+    }
+
+    // With another at a place.
+    pub(crate) fn put(&mut self, p: usize, row: Row, changed: bool)
+        requires { p < most_keys }
+        ensures { self.new ≡ record { lens = set self.old.lens p row.len; names = set self.old.names p row.named; changed = set self.old.changed p changed } }
+    {
+        self.lens[p] = row.len;
+        self.names[p] = row.named;
+        self.changed[p] = changed;
     }
 }
 
+// One column: the numbers and the kinds of all 32 lists, and what its rows hold.
+#[derive(Clone, Copy)]
+pub(crate) struct Column {
+    pub(crate) numbers: [u32; PLACES],
+    pub(crate) kinds: [u8; PLACES],
+    pub(crate) rows: Rows,
+}
+
 // The first `n` numbers and kinds of a row to the front of another.
-fn copy_row<'a>(
-    numbers: &'a [u32],
-    kinds: &'a [u8],
-    n: usize,
-    to_numbers: &mut [u32],
-    to_kinds: &mut [u8],
-)
+fn copy_row(numbers: &[u32], kinds: &[u8], n: usize, to_numbers: &mut [u32], to_kinds: &mut [u8])
     requires { (n ≤ length numbers.now) × (n ≤ length kinds.now) × (n ≤ length to_numbers.old) × (n ≤ length to_kinds.old) }
     ensures { (to_numbers.new ≡ overwritten (take n numbers.now) to_numbers.old)
         × (to_kinds.new ≡ overwritten (take n kinds.now) to_kinds.old) }
 {
-    let mut i = 0;
-    while i < n {
-        to_numbers[i] = numbers[i];
-        to_kinds[i] = kinds[i];
-        i += 1;
-    }
+    to_numbers[..n].copy_from_slice(&numbers[..n]);
+    to_kinds[..n].copy_from_slice(&kinds[..n]);
 }
 
 // A row as a list, in its stored form.
-fn list_of<'a>(numbers: &'a [u32], kinds: &'a [u8], len: usize, named: u8) -> IdList
+fn list_of(numbers: &[u32], kinds: &[u8], row: Row) -> IdList
     requires { (length numbers.now ≡ most_ids) × (length kinds.now ≡ most_ids) }
-    ensures { result ≡ row_list numbers.now kinds.now (record { len = len; named = named }) }
+    ensures { result ≡ row_list numbers.now kinds.now row }
 {
     let mut ns = [0u32; IdList::MOST];
     let mut ks = [0u8; IdList::MOST];
-    copy_row(
-        numbers,
-        kinds,
-        lists::least(len, IdList::MOST),
-        &mut ns,
-        &mut ks,
-    );
+    copy_row(numbers, kinds, row.len.min(IdList::MOST), &mut ns, &mut ks);
     IdList {
         numbers: ns,
         kinds: ks,
-        len,
-        named,
+        len: row.len,
+        named: row.named,
     }
-}
-
-// All rows as lists, in their stored form: those that did not change are the lists that were laid out.
-pub(crate) fn gather<'a>(
-    laid: [IdList; Table::KEYS],
-    numbers: &'a [u32],
-    kinds: &'a [u8],
-    rows: Rows,
-) -> [IdList; Table::KEYS]
-    requires { (length numbers.now ≡ places) × (length kinds.now ≡ places) × Unchanged laid numbers.now kinds.now rows }
-    ensures { result ≡ gathered numbers.now kinds.now rows }
-{
-    let mut lists = laid;
-    let mut p = 0;
-    while p < Table::KEYS {
-        if rows.changed[p] {
-            let a = p * IdList::MOST;
-            let e = a + IdList::MOST;
-            lists[p] = list_of(&numbers[a..e], &kinds[a..e], rows.lens[p], rows.names[p]);
-        }
-        p += 1;
-    }
-    lists
 }
 
 // Lays a list out in a row.
-fn lay(list: IdList, numbers: &mut [u32], kinds: &mut [u8]) -> Row
+fn lay(list: &IdList, numbers: &mut [u32], kinds: &mut [u8]) -> Row
     requires { (length numbers.old ≡ most_ids) × (length kinds.old ≡ most_ids) }
-    ensures { row_list numbers.new kinds.new result ≡ packed list }
+    ensures { row_list numbers.new kinds.new result ≡ packed list.now }
 {
-    let len = lists::least(list.len, IdList::MOST);
+    let len = list.len.min(IdList::MOST);
     copy_row(&list.numbers, &list.kinds, len, numbers, kinds);
     Row {
         len,
@@ -133,65 +121,70 @@ fn lay(list: IdList, numbers: &mut [u32], kinds: &mut [u8]) -> Row
     }
 }
 
-// Lays all lists out in rows.
-pub(crate) fn scatter(lists: [IdList; Table::KEYS], numbers: &mut [u32], kinds: &mut [u8]) -> Rows
-    requires { (length numbers.old ≡ places) × (length kinds.old ≡ places) }
-    ensures { Laid lists result numbers.new kinds.new }
-{
-    let mut rows = Rows::none();
-    let mut p = 0;
-    while p < Table::KEYS {
-        let list = lists[p];
-        let a = p * IdList::MOST;
-        let e = a + IdList::MOST;
-        let row = lay(list, &mut numbers[a..e], &mut kinds[a..e]);
-        rows.lens[p] = row.len;
-        rows.names[p] = row.named;
-        rows.changed[p] = false;
-        p += 1;
+impl Column {
+    // Lists laid out.
+    pub(crate) fn of(lists: &[IdList; Table::KEYS]) -> Self
+        ensures { Laid lists.now result.rows result.numbers result.kinds }
+    {
+        let mut column = Column {
+            numbers: [0u32; PLACES],
+            kinds: [0u8; PLACES],
+            rows: Rows::none(),
+        };
+        column.lay(lists);
+        column
     }
-    rows
+
+    // Lays lists out.
+    pub(crate) fn lay(&mut self, lists: &[IdList; Table::KEYS])
+        ensures { Laid lists.now self.new.rows self.new.numbers self.new.kinds }
+    {
+        for p in 0..Table::KEYS {
+            let a = p * IdList::MOST;
+            let e = a + IdList::MOST;
+            let row = lay(&lists[p], &mut self.numbers[a..e], &mut self.kinds[a..e]);
+            self.rows.put(p, row, false);
+        }
+    }
+
+    // Makes the lists that were laid out those of the rows, in their stored form: the rows that did not change are theirs.
+    pub(crate) fn gather(&self, lists: &mut [IdList; Table::KEYS])
+        requires { Unchanged lists.old self.now.numbers self.now.kinds self.now.rows }
+        ensures { lists.new ≡ gathered self.now.numbers self.now.kinds self.now.rows }
+    {
+        for p in 0..Table::KEYS {
+            if self.rows.changed[p] {
+                let a = p * IdList::MOST;
+                let e = a + IdList::MOST;
+                lists[p] = list_of(&self.numbers[a..e], &self.kinds[a..e], self.rows.at(p));
+            }
+        }
+    }
 }
 
-// What adding a field's identifiers to a row leaves of it, and whether all fit.
-#[derive(Clone, Copy)]
-struct Appended {
-    row: Row,
-    fits: bool,
-}
-
-// Adds the identifiers of a field at a row's end, in order, each once, and the kinds that it names. A row that would
-// grow beyond 128 is left as no list.
-fn append(numbers: &mut [u32], kinds: &mut [u8], row: Row, body: &[u8], f: Field) -> Appended
+// Adds the identifiers of a field at a row's end, in order, each once, and the kinds that it names: the row then, or none
+// where it would grow beyond 128.
+fn append(numbers: &mut [u32], kinds: &mut [u8], row: Row, body: &[u8], f: Field) -> Option<Row>
     requires { (length numbers.old ≡ most_ids) × (length kinds.old ≡ most_ids) × (row.len ≤ most_ids) }
     ensures { appended_as result numbers.new kinds.new
         ≡ with_field (row_list numbers.old kinds.old row) body.now f }
 {
     let named = lists::names_with(row.named, f.qualifier);
     let mut len = row.len;
-    let count = f.count;
-    let mut i = 0;
-    while i < count {
+    for i in 0..f.count {
         let id = f.identifier(body, i);
         let kind = id.kind();
         let number = id.number();
-        if !lists::stands_in(numbers, kinds, 0, len, kind, number) {
+        if !Pairs::first(numbers, kinds, len).has(kind, number) {
             if IdList::MOST <= len {
-                return Appended {
-                    row: Row { len: 0, named: 0 },
-                    fits: false,
-                };
+                return None;
             }
             numbers[len] = number;
             kinds[len] = kind;
             len += 1;
         }
-        i += 1;
     }
-    Appended {
-        row: Row { len, named },
-        fits: true,
-    }
+    Some(Row { len, named })
 }
 
 // What a field leaves of a held key's two rows, and the note.
@@ -203,6 +196,7 @@ pub(crate) struct Stepped {
 }
 
 // These three.
+// Kept: six literals of five lines each in on_held are no plainer, and it would pass 40 lines.
 fn step_of(shown: Row, draft: Row, note: Note) -> Stepped
     ensures { result ≡ record { shown = shown; draft = draft; note = note } }
 {
@@ -233,20 +227,16 @@ pub(crate) fn on_held(
         if len == 0 {
             return step_of(shown, draft, Note::NoOpenList);
         }
-        let longer = append(dn, dk, draft, body, f);
-        let row = longer.row;
-        if longer.fits {
-            return step_of(shown, row, Note::Added);
-        }
-        return step_of(shown, row, Note::TooLong);
+        return match append(dn, dk, draft, body, f) {
+            Some(row) => step_of(shown, row, Note::Added),
+            None => step_of(shown, Row::none(), Note::TooLong),
+        };
     }
     if len == 0 {
-        let opened = append(dn, dk, Row { len: 0, named: 0 }, body, f);
-        let row = opened.row;
+        let row = append(dn, dk, Row::none(), body, f).unwrap_or(Row::none());
         return step_of(shown, row, Note::Opened);
     }
     copy_row(dn, dk, len, sn, sk);
-    let opened = append(dn, dk, Row { len: 0, named: 0 }, body, f);
-    let row = opened.row;
+    let row = append(dn, dk, Row::none(), body, f).unwrap_or(Row::none());
     step_of(draft, row, Note::ShownAndOpened)
 }

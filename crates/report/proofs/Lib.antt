@@ -1,3 +1,4 @@
 pub mod Sizes
 pub mod Lines
 pub mod Single
+pub mod Called

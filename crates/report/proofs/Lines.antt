@@ -1,18 +1,26 @@
 -- Laws of the lines of blocks, and of how many blocks are refused. In order: whole blocks before others; no more are refused than
 -- there are; a block as it is judged, which is told by its outcome and place.
-use Prim.Native.Nat.{ℕ, zero, suc, ◌+◌, ◌*◌, ◌≤◌, ◌<◌}
+use Prim.Native.Nat.{ℕ, zero, suc, ◌+◌, ◌*◌, ◌≤◌}
 use native.Mathlib.Nat.{zero-add, add-zero, suc-add}
 use native.Mathlib.Omega.{arith}
-use mathlib.Core.Path.{◌≡◌, refl, sym, ap}
+use mathlib.Core.Path.{◌≡◌, refl, sym}
 use mathlib.Core.List.{List, [], ◌∷◌, ◌++◌, append_assoc}
+use mathlib.Core.Bool.{Bool, true, false, cond}
+use lib.Dec.{eqb}
+use denote.Enum.Bare.{sameb}
+use borrow.Author.Tests.{ne_eqb}
 use lib.ListN.{length, take, drop, length-drop}
 use lib.Seq.{take-append-le, drop-append-le}
 use Rattle.rules.specs.Block.{bit}
 use Rattle.rules.specs.Outcomes.{number_of, Verdict, verdict, is_refused, refused_of}
 use Rattle.rules.proofs.Basics.{bit_small}
 use Rattle.rules.proofs.LinkageLaws.{refused_full, refused_numbers}
-use Rattle.block.specs.declared.Judged.{Judged}
-use Rattle.block.specs.Judged.{judged}
+use Rattle.std.specs.Prelude.{Result, Ok, Err}
+use Rattle.block.specs.declared.Spots.{Spots}
+use Rattle.block.specs.declared.Fault.{Fault}
+use Rattle.block.specs.contracts.Fault.{the_type}
+use Rattle.block.specs.declared.Refused.{Refused}
+use Rattle.block.specs.Judged.{outcome_of, judged}
 use Rattle.block.proofs.Meaning.{JudgedAs, is_taken, is_refused as refused_as, is_no_block, says}
 use Rattle.report.specs.Report.{refusal_line, block_line, lines_of}
 
@@ -46,26 +54,37 @@ refused_few (suc n) bytes = omega (arith, bit_small (is_refused (verdict (take 3
 
 -- ---- a block as it is judged
 
--- by this line, and as so many refused ones
-abbrev ToldAs : ℕ → Verdict → List ℕ → ℕ → Type 0
-ToldAs block v line n = (line ≡ block_line block v) × (n ≡ bit (is_refused v))
+-- by this line, and as refused or not
+abbrev ToldAs : ℕ → Verdict → List ℕ → Bool → Type 0
+ToldAs block v line b = (line ≡ block_line block v) × (b ≡ is_refused v)
 
-module _ (block : ℕ) (fib : List ℕ) (r : Judged) where
-  none_as : JudgedAs fib (verdict fib) r → number_of r.outcome < 2 → ToldAs block (verdict fib) [] 0
-  unfolding block_line is_refused bit
-  none_as (is_taken fs v o p s) h = rw v (refl, refl)
-  none_as (refused_as o p v q at s) h = absurd (omega (arith, ap number_of q, refused_numbers (refused_full fib o p v).1))
-  none_as (is_no_block v o p s) h = rw v (refl, refl)
+-- a fault that is told, from what is no block
+pub no_block_number : (f : Fault) → eqb (number_of (outcome_of f)) 1 ≡ sameb the_type f Fault.NotABlock
+unfolding number_of
+no_block_number Fault.NotABlock = refl
+no_block_number Fault.CheckFails = refl
+no_block_number Fault.WrongFig = refl
+no_block_number Fault.WrongField = refl
+no_block_number Fault.WrongValue = refl
+no_block_number Fault.EmptyStart = refl
 
-  line_as : JudgedAs fib (verdict fib) r → 2 ≤ number_of r.outcome → ToldAs block (verdict fib) (refusal_line block r.outcome r.place) 1
-  unfolding block_line is_refused bit number_of
-  line_as (is_taken fs v o p s) h = absurd (omega (arith, ap number_of o))
-  line_as (refused_as o p v q at s) h = rw (v, q, at) (refl, refl)
-  line_as (is_no_block v o p s) h = absurd (omega (arith, ap number_of o))
+-- the line of an answer, and whether it says that its block is refused
+unfoldable pub line_in : ℕ → Result Spots Refused → List ℕ
+line_in block (Ok spots) = []
+line_in block (Err r) = cond (eqb (number_of (outcome_of r.fault)) 1) [] (refusal_line block (outcome_of r.fault) r.place)
 
-  -- below 2 it is taken or no block
-  pub told_none : r ≡ judged fib → number_of r.outcome < 2 → ToldAs block (verdict fib) [] 0
-  told_none e = none_as (says fib e)
+unfoldable pub refused_in : Result Spots Refused → Bool
+refused_in (Ok spots) = false
+refused_in (Err r) = cond (eqb (number_of (outcome_of r.fault)) 1) false true
 
-  pub told_line : r ≡ judged fib → 2 ≤ number_of r.outcome → ToldAs block (verdict fib) (refusal_line block r.outcome r.place) 1
-  told_line e = line_as (says fib e)
+told_as : (block : ℕ) (fib : List ℕ) (r : Result Spots Refused) → JudgedAs fib (verdict fib) r → ToldAs block (verdict fib) (line_in block r) (refused_in r)
+unfolding line_in refused_in block_line is_refused number_of
+told_as block fib r (is_taken fs v spots e s) = rw (e, v) (refl, refl)
+told_as block fib r (refused_as f v e) =
+    let n = (refused_numbers (refused_full fib (outcome_of f.fault) f.place v).1).0 in
+    rw (e, v, ne_eqb (number_of (outcome_of f.fault)) 1 (λ z. absurd (omega (arith, n, z)))) (refl, refl)
+told_as block fib r (is_no_block v e) = rw (e, v) (refl, refl)
+
+-- what an answer says of its block
+pub told_law : (block : ℕ) (fib : List ℕ) {r : Result Spots Refused} → r ≡ judged fib → ToldAs block (verdict fib) (line_in block r) (refused_in r)
+told_law block fib {r} e = told_as block fib r (says fib e)

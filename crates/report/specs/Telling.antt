@@ -1,9 +1,9 @@
--- What a function that tells of blocks answers.
-use Rattle.std.specs.Prelude.{ℕ, ◌≡◌, List}
-use Rattle.out.specs.Put.{Puts}
-use Rattle.report.specs.declared.Told.{Told}
+-- What a function that tells of a block answers.
+use Rattle.std.specs.Prelude.{ℕ, ◌≡◌, Bool, List}
+use Rattle.out.specs.Page.{Writes}
+use Rattle.out.specs.declared.Page.{Page}
 
--- this text is stored in a buffer from a place on, as far as it fits, and so many of the blocks are refused
-pub record Tells (old : List ℕ) (at : ℕ) (text : List ℕ) (refused : ℕ) (new : List ℕ) (r : Told) : Type 0 where
-  pub puts : Puts old at text new r.next
-  pub refused_are : r.refused ≡ refused
+-- this text is written on a page, and the block is refused or not
+pub record Tells (old : Page) (text : List ℕ) (refused : Bool) (new : Page) (answer : Bool) : Type 0 where
+  pub writes : Writes old text new
+  pub refused_is : answer ≡ refused

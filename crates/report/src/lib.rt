@@ -2,123 +2,93 @@
 // end, over a lent buffer. Every function is proved and none that is `pub` has a `requires`: what does not fit is not stored.
 #![tactic(auto)]
 
-ghost use Rattle.rules.specs.Block.{bit};
-ghost use Rattle.rules.specs.Outcomes.{verdict, is_refused};
-ghost use Rattle.out.specs.Put.{Puts};
+ghost use Rattle.std.specs.Prelude.{◌≡◌};
+ghost use Rattle.rules.specs.Outcomes.{number_of, verdict, is_refused};
+ghost use Rattle.out.specs.Page.{Writes};
 ghost use Rattle.report.specs.Report.{words_of, place_text, refusal_line, block_line, count_line, counts_text};
 ghost use Rattle.report.specs.Telling.{Tells};
 
-use lists::least;
-use out::{outcome_number, put, put_bytes, put_decimal};
+use block::Fault;
+use out::Page;
 use rules::Outcome;
 
 // ---- the line of a refused block
 
-// What an answer is called, by its number, at a place.
-fn put_words(out: &mut [u8], at: usize, n: usize) -> usize
-    ensures { Puts out.old at (words_of n) out.new result }
+// What an answer is called; those that refuse no block have no name.
+fn words<'a>(outcome: Outcome) -> &'a [u8]
+    ensures { result.now ≡ words_of (number_of outcome) }
 {
-    if n == 2 {
-        return put_bytes(out, at, b"check fails");
+    match outcome {
+        Outcome::CheckFails => b"check fails",
+        Outcome::WrongFig => b"wrong FIG",
+        Outcome::WrongField => b"wrong field",
+        Outcome::WrongValue => b"wrong value",
+        Outcome::EmptyStart => b"empty start",
+        _ => b"",
     }
-    if n == 3 {
-        return put_bytes(out, at, b"wrong FIG");
-    }
-    if n == 4 {
-        return put_bytes(out, at, b"wrong field");
-    }
-    if n == 5 {
-        return put_bytes(out, at, b"wrong value");
-    }
-    if n == 6 {
-        return put_bytes(out, at, b"empty start");
-    }
-    least(at, out.len())
 }
 
-// Where a block broke, by the answer's number, at a place: nothing where the check fails.
-fn put_where(out: &mut [u8], at: usize, n: usize, place: usize) -> usize
-    ensures { Puts out.old at (place_text n place) out.new result }
+// Where a block broke: nothing where the check fails.
+fn put_where(page: &mut Page, outcome: Outcome, place: usize)
+    ensures { Writes page.old (place_text (number_of outcome) place) page.new }
 {
-    if n == 2 {
-        return least(at, out.len());
+    if outcome != Outcome::CheckFails {
+        page.put_bytes(b" at byte ");
+        page.put_decimal(place);
     }
-    let p = put_bytes(out, at, b" at byte ");
-    put_decimal(out, p, place)
 }
 
-// The line of a refused block at a place, and the place after it.
-pub fn put_refusal(out: &mut [u8], at: usize, block: usize, outcome: Outcome, place: usize) -> usize
-    ensures { Puts out.old at (refusal_line block outcome place) out.new result }
+// The line of a refused block.
+pub fn put_refusal(page: &mut Page, block: usize, outcome: Outcome, place: usize)
+    ensures { Writes page.old (refusal_line block outcome place) page.new }
 {
-    let n = outcome_number(outcome);
-    let a = put_bytes(out, at, b"block ");
-    let b = put_decimal(out, a, block);
-    let c = put_bytes(out, b, b": ");
-    let d = put_decimal(out, c, n);
-    let e = put_where(out, d, n, place);
-    let f = put_bytes(out, e, b", ");
-    let g = put_words(out, f, n);
-    put(out, g, 10)
+    page.put_bytes(b"block ");
+    page.put_decimal(block);
+    page.put_bytes(b": ");
+    page.put_decimal(usize::from(outcome));
+    put_where(page, outcome, place);
+    page.put_bytes(b", ");
+    page.put_bytes(words(outcome));
+    page.put(b'\n');
 }
 
 // ---- the lines of blocks
 
-// What was put of some blocks: the place after their lines, and how many of them are refused.
-#[derive(Clone, Copy)]
-pub struct Told {
-    pub next: usize,
-    pub refused: usize,
-}
-
-// The line of a block at a place, if it is refused.
-pub fn put_block(out: &mut [u8], at: usize, block: usize, fib: &[u8]) -> Told
-    ensures { Tells out.old at (block_line block (verdict fib.now)) (bit (is_refused (verdict fib.now))) out.new result }
+// The line of a block, if it is refused, and whether it is; what is no block is not.
+pub fn put_block(page: &mut Page, block: usize, fib: &[u8]) -> bool
+    ensures { Tells page.old (block_line block (verdict fib.now)) (is_refused (verdict fib.now)) page.new result }
 {
-    let judged = block::judge(fib);
-    let outcome = judged.outcome;
-    if outcome_number(outcome) < 2 {
-        return Told {
-            next: least(at, out.len()),
-            refused: 0,
-        };
-    }
-    Told {
-        next: put_refusal(out, at, block, outcome, judged.place),
-        refused: 1,
+    match block::judge(fib) {
+        Err(refused) if refused.fault != Fault::NotABlock => {
+            put_refusal(page, block, Outcome::from(refused.fault), refused.place);
+            true
+        }
+        _ => false,
     }
 }
 
 // ---- the counts
 
-// A line that is some words and a count, at a place: nothing where the count is 0.
-fn put_count<'a>(out: &mut [u8], at: usize, words: &'a [u8], n: usize) -> usize
-    ensures { Puts out.old at (count_line words.now n) out.new result }
+// A line that is some words and a count: nothing where the count is 0.
+fn put_count(page: &mut Page, words: &[u8], n: usize)
+    ensures { Writes page.old (count_line words.now n) page.new }
 {
-    if n == 0 {
-        return least(at, out.len());
+    if n != 0 {
+        page.put_bytes(words);
+        page.put_decimal(n);
+        page.put(b'\n');
     }
-    let p = put_bytes(out, at, words);
-    let q = put_decimal(out, p, n);
-    put(out, q, 10)
 }
 
-// The counts at the end of a report, at a place, and the place after them.
-pub fn put_counts(
-    out: &mut [u8],
-    at: usize,
-    blocks: usize,
-    refused: usize,
-    full: usize,
-    rest: usize,
-) -> usize
-    ensures { Puts out.old at (counts_text blocks refused full rest) out.new result }
+// The counts at the end of a report.
+pub fn put_counts(page: &mut Page, blocks: usize, refused: usize, full: usize, rest: usize)
+    ensures { Writes page.old (counts_text blocks refused full rest) page.new }
 {
-    let a = put_bytes(out, at, b"blocks ");
-    let b = put_decimal(out, a, blocks);
-    let c = put_bytes(out, b, b", refused ");
-    let d = put_decimal(out, c, refused);
-    let e = put(out, d, 10);
-    let f = put_count(out, e, b"starts without room ", full);
-    put_count(out, f, b"rest ", rest)
+    page.put_bytes(b"blocks ");
+    page.put_decimal(blocks);
+    page.put_bytes(b", refused ");
+    page.put_decimal(refused);
+    page.put(b'\n');
+    put_count(page, b"starts without room ", full);
+    put_count(page, b"rest ", rest);
 }

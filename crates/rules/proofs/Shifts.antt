@@ -1,119 +1,14 @@
--- An array with one value more or one less. In order: a blend of two arrays, one value further; the values of `opened` and
--- `shut`; both on stored arrays.
+-- An array with one value more or one less, as it is stored.
 use Prim.Native.Nat.{ℕ, zero, suc, ◌+◌, ◌-◌, ◌<◌, ◌≤◌}
-use native.Mathlib.Nat.{le_of_suc-le-suc, not-suc-le-zero, add-zero}
-use native.Mathlib.Numerals.{add-one}
+use native.Mathlib.Nat.{le_of_suc-le-suc, not-suc-le-zero}
 use native.Mathlib.Omega.{arith}
 use mathlib.Core.Path.{◌≡◌, refl, sym, ap, ap₂, ◌∙◌}
-use mathlib.Core.List.{List, [], ◌∷◌, ◌++◌, append_assoc, append-nil}
-use lib.ListN.{length, get_or, set, take, drop, replicate, length-take, length-drop, length-append, length-replicate, take-append-drop, get_or-append, replicate-append-replicate, drop_of_length-le}
-use lib.Seq.{set_at, drop-cons, take-suc, take-append-le, drop-append-le, take-append-add, take_all, take-take, get_or-append-add, get_or-take, get_or-drop, length-take-le, append_snoc, set_comm}
+use mathlib.Core.List.{List, [], ◌∷◌, ◌++◌, append_assoc}
+use lib.ListN.{length, take, drop, replicate, length-drop, length-append, length-replicate, replicate-append-replicate}
+use lib.Seq.{take-append-le, drop-append-le, take-append-add, length-take-le}
 use Rattle.rules.specs.Arrays.{padded, opened, shut}
 
 module _ {A : Type 0} where
-  -- ---- a blend of two arrays: the first j values of one, the rest of the other
-
-  unfoldable pub blend : ℕ → List A → List A → List A
-  blend j new old = take j new ++ drop j old
-
-  pub blend_step : (j : ℕ) (new old : List A) (d : A) → length new ≡ length old → j < length old
-      → set (blend j new old) j (get_or new j d) ≡ blend (j + 1) new old
-  unfolding blend
-  blend_step j new old d l h =
-      rw (add-one j)
-      (ap (λ (r : List A). set (take j new ++ r) j (get_or new j d)) (drop-cons old j d h)
-      ∙ set_at (take j new) (get_or old j d) (drop (suc j) old) (get_or new j d) j (length-take-le j new (omega arith))
-      ∙ sym (append_snoc (take j new) (get_or new j d) (drop (suc j) old))
-      ∙ ap (λ (r : List A). r ++ drop (suc j) old) (sym (take-suc new j d (omega arith))))
-
-  pub blend_all : (j : ℕ) (new old : List A) → length new ≡ length old → length old ≤ j → blend j new old ≡ new
-  unfolding blend
-  blend_all j new old l h = ap₂ ◌++◌ (take_all j new (omega arith)) (drop_of_length-le old {i = j} h) ∙ append-nil new
-
-  -- ---- the values of an array with one value more
-
-  pub length_opened : (at : ℕ) (v : A) (xs : List A) → at ≤ length xs → length (opened at v xs) ≡ length xs
-  unfolding opened
-  length_opened at v xs h =
-      length-take (length xs) (take at xs ++ v ∷ drop at xs)
-      ∙ rw (length-append (take at xs) (v ∷ drop at xs), length-take-le at xs h, length-drop at xs) (omega arith)
-
-  opened_value : (at : ℕ) (v : A) (xs : List A) (j : ℕ) (d : A) → j < length xs → get_or (opened at v xs) j d ≡ get_or (take at xs ++ v ∷ drop at xs) j d
-  unfolding opened
-  opened_value at v xs j d h = get_or-take (length xs) (take at xs ++ v ∷ drop at xs) j d h
-
-  pub opened_here : (at : ℕ) (v : A) (xs : List A) (d : A) → at < length xs → get_or (opened at v xs) at d ≡ v
-  opened_here at v xs d h =
-      opened_value at v xs at d h
-      ∙ ap (λ (k : ℕ). get_or (take at xs ++ v ∷ drop at xs) k d) (sym (length-take-le at xs (omega arith)) ∙ sym (add-zero (length (take at xs))))
-      ∙ get_or-append-add (take at xs) (v ∷ drop at xs) 0 d
-
-  pub opened_after : (at : ℕ) (v : A) (xs : List A) (j : ℕ) (d : A) → at < j → j < length xs → get_or (opened at v xs) j d ≡ get_or xs (j - 1) d
-  opened_after at v xs j d a h =
-      let m : length (take at xs) + suc (j - 1 - at) ≡ j = ap (λ (k : ℕ). k + suc (j - 1 - at)) (length-take-le at xs (omega arith)) ∙ omega arith in
-      let n : at + (j - 1 - at) ≡ j - 1 = omega arith in
-      opened_value at v xs j d h
-      ∙ ap (λ (k : ℕ). get_or (take at xs ++ v ∷ drop at xs) k d) (sym m)
-      ∙ get_or-append-add (take at xs) (v ∷ drop at xs) (suc (j - 1 - at)) d
-      ∙ get_or-drop at xs (j - 1 - at) d
-      ∙ ap (λ (k : ℕ). get_or xs k d) n
-
-  -- before the place nothing changes, so that a blend begins there
-  pub opened_before : (at : ℕ) (v : A) (xs : List A) → at ≤ length xs → take at (opened at v xs) ≡ take at xs
-  unfolding opened
-  opened_before at v xs h =
-      take-take at (length xs) (take at xs ++ v ∷ drop at xs) h
-      ∙ take-append-le at (take at xs) (v ∷ drop at xs) (rw (length-take-le at xs h) (omega arith))
-      ∙ take_all at (take at xs) (rw (length-take-le at xs h) (omega arith))
-
-  pub blend_opened : (at : ℕ) (v : A) (xs : List A) → at < length xs → set xs at v ≡ blend (at + 1) (opened at v xs) xs
-  blend_opened at v xs h =
-      sym (ap₂ (λ (l : List A) (x : A). set l at x) (start at v xs (omega arith)) (opened_here at v xs v h))
-      ∙ blend_step at (opened at v xs) xs v (length_opened at v xs (omega arith)) h
-    where
-      start : (at : ℕ) (v : A) (xs : List A) → at ≤ length xs → blend at (opened at v xs) xs ≡ xs
-      start at v xs g = unfold blend in (ap (λ (r : List A). r ++ drop at xs) (opened_before at v xs g) ∙ take-append-drop at xs)
-
-  -- ---- the values of an array with one value less
-
-  pub length_shut : (at : ℕ) (d : A) (xs : List A) → at < length xs → length (shut at d xs) ≡ length xs
-  unfolding shut
-  length_shut at d xs h =
-      rw (length-append (take at xs ++ drop (suc at) xs) (d ∷ []), length-append (take at xs) (drop (suc at) xs), length-take-le at xs (omega arith), length-drop (suc at) xs)
-      (omega arith)
-
-  front_length : (at : ℕ) (xs : List A) → at < length xs → length (take at xs ++ drop (suc at) xs) ≡ length xs - 1
-  front_length at xs h = rw (length-append (take at xs) (drop (suc at) xs), length-take-le at xs (omega arith), length-drop (suc at) xs) (omega arith)
-
-  pub shut_value : (at : ℕ) (d : A) (xs : List A) (j : ℕ) (e : A) → at ≤ j → j + 1 < length xs → get_or (shut at d xs) j e ≡ get_or xs (j + 1) e
-  unfolding shut
-  shut_value at d xs j e a h =
-      let m : length (take at xs) + (j - at) ≡ j = ap (λ (k : ℕ). k + (j - at)) (length-take-le at xs (omega arith)) ∙ omega arith in
-      let n : suc at + (j - at) ≡ j + 1 = omega arith in
-      get_or-append (take at xs ++ drop (suc at) xs) (d ∷ []) e j (rw (front_length at xs (omega arith)) (omega arith))
-      ∙ ap (λ (k : ℕ). get_or (take at xs ++ drop (suc at) xs) k e) (sym m)
-      ∙ get_or-append-add (take at xs) (drop (suc at) xs) (j - at) e
-      ∙ get_or-drop (suc at) xs (j - at) e
-      ∙ ap (λ (k : ℕ). get_or xs k e) n
-
-  pub shut_last : (at : ℕ) (d : A) (xs : List A) (j : ℕ) (e : A) → at ≤ j → j + 1 ≡ length xs → get_or (shut at d xs) j e ≡ d
-  unfolding shut
-  shut_last at d xs j e a h =
-      let m : length (take at xs ++ drop (suc at) xs) + 0 ≡ j = ap (λ (k : ℕ). k + 0) (front_length at xs (omega arith)) ∙ omega arith in
-      ap (λ (k : ℕ). get_or (take at xs ++ drop (suc at) xs ++ d ∷ []) k e) (sym m)
-      ∙ get_or-append-add (take at xs ++ drop (suc at) xs) (d ∷ []) 0 e
-
-  pub shut_before : (at : ℕ) (d : A) (xs : List A) → at < length xs → blend at (shut at d xs) xs ≡ xs
-  unfolding blend shut
-  shut_before at d xs h =
-      ap (λ (r : List A). r ++ drop at xs)
-      (ap (take at) (append_assoc (take at xs) (drop (suc at) xs) (d ∷ []))
-      ∙ take-append-le at (take at xs) (drop (suc at) xs ++ d ∷ []) (rw (length-take-le at xs (omega arith)) (omega arith))
-      ∙ take_all at (take at xs) (rw (length-take-le at xs (omega arith)) (omega arith)))
-      ∙ take-append-drop at xs
-
-  -- ---- on stored arrays
-
   take_replicate : (m n : ℕ) (d : A) → m ≤ n → take m (replicate n d) ≡ replicate m d
   take_replicate zero n d h = refl
   take_replicate (suc m) zero d h = absurd (not-suc-le-zero h)
@@ -121,6 +16,9 @@ module _ {A : Type 0} where
 
   with_length : (i : ℕ) (v : A) (ys : List A) → i ≤ length ys → length (take i ys ++ v ∷ drop i ys) ≡ length ys + 1
   with_length i v ys h = rw (length-append (take i ys) (v ∷ drop i ys), length-take-le i ys h, length-drop i ys) (omega arith)
+
+  front_length : (at : ℕ) (xs : List A) → at < length xs → length (take at xs ++ drop (suc at) xs) ≡ length xs - 1
+  front_length at xs h = rw (length-append (take at xs) (drop (suc at) xs), length-take-le at xs (omega arith), length-drop (suc at) xs) (omega arith)
 
   pub padded_opened : (n : ℕ) (d : A) (ys : List A) (i : ℕ) (v : A) → i ≤ length ys → length ys < n
       → padded n d (take i ys ++ v ∷ drop i ys) ≡ opened i v (padded n d ys)
@@ -153,35 +51,3 @@ module _ {A : Type 0} where
       ∙ sym
       (ap₂ (λ (a b : List A). a ++ b ++ d ∷ []) (take-append-le i ys (replicate (n - length ys) d) (omega arith)) (drop-append-le (suc i) ys (replicate (n - length ys) d) h)
       ∙ append_assoc (take i ys) (drop (suc i) ys ++ replicate (n - length ys) d) (d ∷ []))
-
-  -- ---- one turn of the loops that move values: `n` is the array's length
-
-  module _ (n at : ℕ) (v : A) (xs : List A) (l : length xs ≡ n) (h : at < n) where
-    -- the array with v at its place is a blend of the opened array and the old one
-    pub open_first : set xs at v ≡ blend (at + 1) (opened at v xs) xs
-    open_first = blend_opened at v xs (omega arith)
-
-    pub open_next : (ys : List A) (j : ℕ) (d : A) → at < j → j < n → set ys at v ≡ blend j (opened at v xs) xs
-        → set (set ys j (get_or xs (j - 1) d)) at v ≡ blend (j + 1) (opened at v xs) xs
-    open_next ys j d a b e =
-        set_comm ys j at (get_or xs (j - 1) d) v (λ q. omega arith)
-        ∙ ap (λ (r : List A). set r j (get_or xs (j - 1) d)) e
-        ∙ ap (λ (x : A). set (blend j (opened at v xs) xs) j x) (sym (opened_after at v xs j d a (omega arith)))
-        ∙ blend_step j (opened at v xs) xs d (length_opened at v xs (omega arith)) (omega arith)
-
-    pub open_last : (ys : List A) (j : ℕ) → n ≤ j → set ys at v ≡ blend j (opened at v xs) xs → set ys at v ≡ opened at v xs
-    open_last ys j b e = e ∙ blend_all j (opened at v xs) xs (length_opened at v xs (omega arith)) (omega arith)
-
-    pub shut_first : xs ≡ blend at (shut at v xs) xs
-    shut_first = sym (shut_before at v xs (omega arith))
-
-    pub shut_next : (ys : List A) (j : ℕ) (d : A) → at ≤ j → j + 1 < n → ys ≡ blend j (shut at v xs) xs → set ys j (get_or xs (j + 1) d) ≡ blend (j + 1) (shut at v xs) xs
-    shut_next ys j d a b e =
-        ap₂ (λ (r : List A) (x : A). set r j x) e (sym (shut_value at v xs j d a (omega arith)))
-        ∙ blend_step j (shut at v xs) xs d (length_shut at v xs (omega arith)) (omega arith)
-
-    pub shut_end : (ys : List A) (j k : ℕ) → at ≤ j → j ≡ k → k + 1 ≡ n → ys ≡ blend j (shut at v xs) xs → set ys k v ≡ shut at v xs
-    shut_end ys j k a q b e =
-        ap (λ (m : ℕ). set ys m v) (sym q) ∙ ap₂ (λ (r : List A) (x : A). set r j x) e (sym (shut_last at v xs j v a (omega arith)))
-        ∙ blend_step j (shut at v xs) xs v (length_shut at v xs (omega arith)) (omega arith)
-        ∙ blend_all (j + 1) (shut at v xs) xs (length_shut at v xs (omega arith)) (omega arith)

@@ -1,12 +1,15 @@
 // The rules of document 01 as definitions, on plain data: see specs/, one module for each section of
 // the document and in its order, and proofs/ for the laws above them. The only code here are the two
-// enums that an answer is made of and the kinds of identifiers, so that the definitions and every program speak of the same ones.
-// Their numbers in document 01 are numberOf and note_number of specs/Outcomes.antt. The outcomes above 11 and the note above 8 are document
-// 02's and wait for their requests.
+// enums that an answer is made of, with their numbers, and the kinds of identifiers, so that the definitions and every program speak
+// of the same ones. The numbers in document 01 are number_of and note_number of specs/Outcomes.antt. The outcomes above 11 and the note
+// above 8 are document 02's and wait for their requests.
 #![tactic(auto)]
 
+ghost use Rattle.std.specs.Prelude.{◌≡◌};
+ghost use Rattle.rules.specs.Outcomes.{number_of, note_number};
+
 // The numbered outcomes (document 01, Numbered outcomes), in their order.
-#[derive(Clone, Copy)]
+#[derive(Clone, Copy, PartialEq, Eq)]
 pub enum Outcome {
     // 0: done
     Done,
@@ -40,8 +43,32 @@ pub enum Outcome {
     BadCode,
 }
 
+impl From<Outcome> for usize {
+    ghost from_gives = { λ outcome n. n ≡ number_of outcome };
+
+    fn from(outcome: Outcome) -> usize {
+        match outcome {
+            Outcome::Done => 0,
+            Outcome::NotABlock => 1,
+            Outcome::CheckFails => 2,
+            Outcome::WrongFig => 3,
+            Outcome::WrongField => 4,
+            Outcome::WrongValue => 5,
+            Outcome::EmptyStart => 6,
+            Outcome::NotHeld => 7,
+            Outcome::ShortBuffer => 8,
+            Outcome::WrongTable => 9,
+            Outcome::NotASheet => 10,
+            Outcome::NotShown => 11,
+            Outcome::TooMuch => 12,
+            Outcome::TooManyPieces => 13,
+            Outcome::BadCode => 14,
+        }
+    }
+}
+
 // What one field of a taken block did (document 01, Collecting).
-#[derive(Clone, Copy)]
+#[derive(Clone, Copy, PartialEq, Eq)]
 pub enum Note {
     // 1: a list opened
     Opened,
@@ -61,6 +88,24 @@ pub enum Note {
     UnknownKey,
     // 9: the open list was dropped by a count of 0 (R-4)
     Dropped,
+}
+
+impl From<Note> for usize {
+    ghost from_gives = { λ note n. n ≡ note_number note };
+
+    fn from(note: Note) -> usize {
+        match note {
+            Note::Opened => 1,
+            Note::ShownAndOpened => 2,
+            Note::Added => 3,
+            Note::NoOpenList => 4,
+            Note::Full => 5,
+            Note::TooLong => 6,
+            Note::StateOnly => 7,
+            Note::UnknownKey => 8,
+            Note::Dropped => 9,
+        }
+    }
 }
 
 // The kinds of identifiers, by their qualifier: a DAB service, an RDS code, DRM or AMSS.

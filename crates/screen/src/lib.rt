@@ -4,11 +4,10 @@
 
 ghost use Rattle.std.specs.Prelude.{◌≡◌, ◌≤◌, length};
 ghost use Rattle.out.specs.Answer.{Outputs};
-ghost use Rattle.out.specs.Put.{Puts};
+ghost use Rattle.out.specs.Page.{Writes};
 ghost use Rattle.screen.specs.Screen.{line_of, totals_text};
 
-use out::{Written, decimal_size, put, put_bytes, put_decimal};
-use rules::Outcome;
+use out::{Page, Unwritten, decimal_size};
 use table::Table;
 use totals::Totals;
 
@@ -19,38 +18,31 @@ fn line_size(totals: Totals) -> usize
     26 + decimal_size(totals.shown) + decimal_size(totals.on) + decimal_size(totals.identifiers)
 }
 
-// The line at a place, and the place after it.
-fn put_line(out: &mut [u8], at: usize, totals: Totals) -> usize
-    ensures { Puts out.old at (line_of totals) out.new result }
+// The line.
+fn put_line(page: &mut Page, totals: Totals)
+    ensures { Writes page.old (line_of totals) page.new }
 {
-    let a = put_bytes(out, at, b"shown ");
-    let b = put_decimal(out, a, totals.shown);
-    let c = put_bytes(out, b, b", on ");
-    let d = put_decimal(out, c, totals.on);
-    let e = put_bytes(out, d, b", identifiers ");
-    let f = put_decimal(out, e, totals.identifiers);
-    put(out, f, 10)
+    page.put_bytes(b"shown ");
+    page.put_decimal(totals.shown);
+    page.put_bytes(b", on ");
+    page.put_decimal(totals.on);
+    page.put_bytes(b", identifiers ");
+    page.put_decimal(totals.identifiers);
+    page.put(10);
 }
 
 // Writes the totals of a table into a lent buffer: 9, then 8, or 0 and the size.
-pub fn write_totals(table: Table, out: &mut [u8]) -> Written
+pub fn write_totals(table: Table, out: &mut [u8]) -> Result<usize, Unwritten>
     ensures { Outputs totals_text table out.old result out.new }
 {
     if !table.meets() {
-        return Written {
-            outcome: Outcome::WrongTable,
-            size: 0,
-        };
+        return Err(Unwritten::WrongTable);
     }
     let totals = table.totals;
     if out.len() < line_size(totals) {
-        return Written {
-            outcome: Outcome::ShortBuffer,
-            size: 0,
-        };
+        return Err(Unwritten::ShortBuffer);
     }
-    Written {
-        outcome: Outcome::Done,
-        size: put_line(out, 0, totals),
-    }
+    let mut page = Page::over(out);
+    put_line(&mut page, totals);
+    Ok(page.size())
 }

@@ -27,7 +27,6 @@ use Rattle.sets.proofs.Entries.{no_entry, entry_at_law}
 -- ---- flags
 
 all_off_replicate : (n : ℕ) → all_off (replicate n false) ≡ true
-unfolding all_off
 all_off_replicate zero = refl
 all_off_replicate (suc n) = all_off_replicate n
 
@@ -36,7 +35,6 @@ off_value true e = sym e
 off_value false e = refl
 
 offs_replicate : (xs : List Bool) → all_off xs ≡ true → xs ≡ replicate (length xs) false
-unfolding all_off
 offs_replicate [] e = refl
 offs_replicate (x ∷ xs) e = ap₂ ◌∷◌ (off_value x (and_left (not x) (all_off xs) e)) (offs_replicate xs (and_right (not x) (all_off xs) e))
 

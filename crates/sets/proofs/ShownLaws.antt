@@ -4,13 +4,14 @@ use Prim.Native.Nat.{ℕ, zero, suc, ◌+◌, ◌-◌, ◌<◌, ◌≤◌, min}
 use native.Mathlib.Numerals.{add-one}
 use native.Mathlib.Omega.{arith}
 use mathlib.Core.Path.{◌≡◌, refl, sym, ap, ◌∙◌}
-use mathlib.Core.Bool.{Bool, true, false, cond}
+use mathlib.Core.Bool.{Bool, true, false, not, cond}
 use mathlib.Core.List.{List, [], ◌∷◌, map}
 use mathlib.Core.Option.{Option, none, some}
-use lib.ListN.{length, get_or, drop, drop_of_length-le}
+use lib.ListN.{length, get_or, take, drop, drop_of_length-le}
 use lib.Dec.{eqb}
 use lib.Seq.{drop-cons}
 use borrow.Author.Tests.{eq-eqb, ne_eqb}
+use Rattle.std.specs.List.{filter}
 use Rattle.rules.specs.Collecting.{IdSet, Held, Entries, sets_meet, if_there, shown_sets, Confirmed, confirming, confirmed_sets, most_keys}
 use Rattle.rules.proofs.Basics.{cases_bool}
 use Rattle.rules.proofs.TableRules.{set_rules, entry_rules, table_rules, bare_shown, confirmed_shown}
@@ -87,6 +88,16 @@ sets_all t h = from_all shown_at t h
 pub sets_few : (t : Sets) → length (sets_in t) ≤ most_keys
 unfolding sets_in
 sets_few t = omega (arith, from_most shown_at t (min t.count most_keys) 0)
+
+-- there are as many as lists that are not empty
+pub sets_counted : (t : Sets) (n i : ℕ) → i + n ≤ length t.shown → length (filter (λ (l : IdList). not (eqb l.len 0)) (take n (drop i t.shown))) ≡ length (sets_from t i n)
+unfolding shown_from
+sets_counted t zero i h = refl
+sets_counted t (suc n) i h =
+    let rest = sets_counted t n (i + 1) (omega arith) in
+    let here : drop i t.shown ≡ get_or t.shown i past ∷ drop (i + 1) t.shown = rw (add-one i) (drop-cons t.shown i past (omega arith)) in
+    ap (λ ls. length (filter (λ (l : IdList). not (eqb l.len 0)) (take (suc n) ls))) here
+    ∙ cases_bool (eqb (get_or t.shown i past).len 0) (λ e. rw e rest) (λ e. rw e (ap suc rest))
 
 -- ---- the sets of a stored table
 

@@ -1,5 +1,6 @@
 -- Places in a table: where a key stands or would stand, keys that ascend, flags that are off.
 use Rattle.std.specs.Prelude.{ℕ, Bool, true, not, ◌&&◌, List, [], ◌∷◌, get_or, ltb, eqb}
+use Rattle.std.specs.List.{list_all}
 use Rattle.rules.specs.Family as Family
 use Rattle.rules.specs.Collecting.{linkage, is_key}
 
@@ -17,6 +18,5 @@ keys_meet last [] = true
 keys_meet last (k ∷ ks) = ltb last k && is_key k && keys_meet k ks
 
 -- all are off
-unfoldable pub all_off : List Bool → Bool
-all_off [] = true
-all_off (x ∷ xs) = not x && all_off xs
+abbrev pub all_off : List Bool → Bool
+all_off flags = list_all not flags

@@ -3,7 +3,7 @@
 // store_sets of specs/Stored.antt; what sets may hold is `sets_meet` of crate rules.
 #![tactic(auto)]
 
-ghost use Rattle.std.specs.Prelude.{◌≡◌, false, [], length, take, drop, ◌<◌};
+ghost use Rattle.std.specs.Prelude.{◌≡◌, [], length, take, ◌<◌, ◌≤◌};
 ghost use Rattle.rules.specs.Arrays.{opened, shut};
 ghost use Rattle.rules.specs.Collecting.{most_keys};
 ghost use Rattle.lists.specs.Stored.{Tested, empty_list};
@@ -16,6 +16,7 @@ use lists::IdList;
 // The entries of the held keys, in ascending key order from place 0 on: key, on or off, the number of the
 // block at which the set was last shown (0 where none is shown, or none since it was loaded), shown set
 // and open list. Every unused place is zero.
+// Kept: five arrays side by side, the one stored form that store_sets of specs/Stored.antt says.
 #[derive(Clone, Copy)]
 pub struct Sets {
     pub count: usize,
@@ -48,87 +49,52 @@ impl Sets {
 
 // ---- the test of the table rules
 
-// Whether the first `count` numbers are keys, and ascend.
-fn keys_meet(keys: &[u32], count: usize) -> bool
-    ensures { result ≡ keys_meet 0 (take count keys.now) }
+// Whether these numbers are keys, and ascend.
+fn keys_meet(keys: &[u32]) -> bool
+    ensures { result ≡ keys_meet 0 keys.now }
 {
-    let end = lists::least(count, keys.len());
-    let mut last = 0u32;
-    let mut i = 0;
-    while i < end {
-        let key = keys[i];
-        if key <= last {
-            return false;
-        }
-        if !lists::is_key(key) {
+    let mut last = 0;
+    for &key in keys {
+        if key <= last || !lists::is_key(key) {
             return false;
         }
         last = key;
-        i += 1;
     }
     true
 }
 
-// Whether every flag from a place on is off.
-fn all_off(on: &[bool], from: usize) -> bool
-    ensures { result ≡ all_off (drop from on.now) }
+// Whether every flag is off.
+fn all_off(flags: &[bool]) -> bool
+    ensures { result ≡ all_off flags.now }
 {
-    let mut i = from;
-    while i < on.len() {
-        if on[i] {
-            return false;
-        }
-        i += 1;
-    }
-    true
+    flags.iter().all(|on| !*on)
 }
 
 // Whether each list is the stored form of one that meets the rules for its key, or of none.
-fn lists_meet(keys: [u32; Sets::KEYS], lists: [IdList; Sets::KEYS]) -> bool
-    ensures { Tested result (EachHolds keys lists) }
+fn lists_meet(keys: &[u32; Sets::KEYS], lists: &[IdList; Sets::KEYS]) -> bool
+    ensures { Tested result (EachHolds keys.now lists.now) }
 {
-    let mut i = 0;
-    while i < Sets::KEYS {
-        let list = lists[i];
-        if !list.meets(keys[i]) {
-            return false;
-        }
-        i += 1;
-    }
-    true
+    keys.iter()
+        .zip(lists.iter())
+        .all(|(key, list)| list.meets(*key))
 }
 
 // Whether there is no list from a place on.
-fn none_from(from: usize, lists: [IdList; Sets::KEYS]) -> bool
-    ensures { Tested result (NoneFrom from lists) }
+fn none_from(from: usize, lists: &[IdList; Sets::KEYS]) -> bool
+    requires { from ≤ most_keys }
+    ensures { Tested result (NoneFrom from lists.now) }
 {
-    let mut i = from;
-    while i < Sets::KEYS {
-        let list = lists[i];
-        if list.len != 0 {
-            return false;
-        }
-        i += 1;
-    }
-    true
+    lists[from..].iter().all(|list| list.len == 0)
 }
 
 // Whether no number stands where there is no list.
-fn numbers_meet(numbers: &[u32], lists: [IdList; Sets::KEYS]) -> bool
-    requires { length numbers.now ≡ most_keys }
-    ensures { Tested result (NumbersHold numbers.now lists) }
+fn numbers_meet(numbers: &[u32; Sets::KEYS], lists: &[IdList; Sets::KEYS]) -> bool
+    ensures { Tested result (NumbersHold numbers.now lists.now) }
 {
-    let mut i = 0;
-    while i < Sets::KEYS {
-        let list = lists[i];
-        if list.len == 0 {
-            if numbers[i] != 0 {
-                return false;
-            }
-        }
-        i += 1;
-    }
-    true
+    numbers
+        .iter()
+        .zip(lists.iter())
+        .all(|(number, list)| list.len != 0 || *number == 0)
 }
 
 impl Sets {
@@ -140,150 +106,73 @@ impl Sets {
         if Self::KEYS < count {
             return false;
         }
-        if !keys_meet(&self.keys, count) {
+        if !keys_meet(&self.keys[..count]) {
             return false;
         }
-        if !lists::zeros_u32(&self.keys, count) {
+        if !lists::all_zero(&self.keys, count) {
             return false;
         }
-        if !all_off(&self.on, count) {
+        if !all_off(&self.on[count..]) {
             return false;
         }
-        let keys = self.keys;
-        let shown = self.shown;
-        let draft = self.draft;
-        if !lists_meet(keys, shown) {
+        if !lists_meet(&self.keys, &self.shown) {
             return false;
         }
-        if !none_from(count, shown) {
+        if !none_from(count, &self.shown) {
             return false;
         }
-        if !numbers_meet(&self.confirmed, shown) {
+        if !numbers_meet(&self.confirmed, &self.shown) {
             return false;
         }
-        if !lists_meet(keys, draft) {
+        if !lists_meet(&self.keys, &self.draft) {
             return false;
         }
-        none_from(count, draft)
+        none_from(count, &self.draft)
     }
 }
 
 // ---- a key's place
 
-// The first place among the first `count` whose key is not smaller than this one.
+// The first place among the first `count` whose key is not smaller than this one, of any keys, ascending or not: so no search by halves.
 pub fn place_of(keys: &[u32], count: usize, key: u32) -> usize
     ensures { result ≡ place_in (take count keys.now) key }
 {
-    let end = lists::least(count, keys.len());
-    let mut i = 0;
-    while i < end {
-        if key <= keys[i] {
-            return i;
-        }
-        i += 1;
-    }
-    i
+    let end = count.min(keys.len());
+    keys[..end]
+        .iter()
+        .position(|held| key <= *held)
+        .unwrap_or(end)
 }
 
-// Whether a key stands at its place.
+// Whether a key stands at its place; past the keys there is key 0.
 pub fn stands_at(keys: &[u32], count: usize, at: usize, key: u32) -> bool
     ensures { result ≡ stands_at keys.now count at key }
 {
-    if count <= at {
-        return false;
-    }
-    if keys.len() <= at {
-        return 0 == key;
-    }
-    keys[at] == key
+    at < count && keys.get(at).copied().unwrap_or(0) == key
 }
 
-// ---- an array with one value more or one less; of each, one for every type of value
+// ---- an array with one value more or one less
 
-fn open_u32(xs: [u32; Sets::KEYS], at: usize, v: u32) -> [u32; Sets::KEYS]
+// With a value at a place, the later ones one place further, the last lost.
+fn opened<T: Copy>(values: [T; Sets::KEYS], at: usize, value: T) -> [T; Sets::KEYS]
     requires { at < most_keys }
-    ensures { result ≡ opened at v xs }
+    ensures { result ≡ opened at value values }
 {
-    let mut ys = xs;
-    let mut j = at + 1;
-    while j < Sets::KEYS {
-        ys[j] = xs[j - 1];
-        j += 1;
-    }
-    ys[at] = v;
-    ys
+    let mut moved = values;
+    moved.copy_within(at..Sets::KEYS - 1, at + 1);
+    moved[at] = value;
+    moved
 }
 
-fn open_flag(xs: [bool; Sets::KEYS], at: usize, v: bool) -> [bool; Sets::KEYS]
+// Without the value at a place, the later ones one place nearer, another at the end.
+fn shut<T: Copy>(values: [T; Sets::KEYS], at: usize, last: T) -> [T; Sets::KEYS]
     requires { at < most_keys }
-    ensures { result ≡ opened at v xs }
+    ensures { result ≡ shut at last values }
 {
-    let mut ys = xs;
-    let mut j = at + 1;
-    while j < Sets::KEYS {
-        ys[j] = xs[j - 1];
-        j += 1;
-    }
-    ys[at] = v;
-    ys
-}
-
-fn open_list(xs: [IdList; Sets::KEYS], at: usize, v: IdList) -> [IdList; Sets::KEYS]
-    requires { at < most_keys }
-    ensures { result ≡ opened at v xs }
-{
-    let mut ys = xs;
-    let mut j = at + 1;
-    while j < Sets::KEYS {
-        let x = xs[j - 1];
-        ys[j] = x;
-        j += 1;
-    }
-    ys[at] = v;
-    ys
-}
-
-fn shut_u32(xs: [u32; Sets::KEYS], at: usize) -> [u32; Sets::KEYS]
-    requires { at < most_keys }
-    ensures { result ≡ shut at 0 xs }
-{
-    let mut ys = xs;
-    let mut j = at;
-    while j < 31 {
-        ys[j] = xs[j + 1];
-        j += 1;
-    }
-    ys[31] = 0;
-    ys
-}
-
-fn shut_flag(xs: [bool; Sets::KEYS], at: usize) -> [bool; Sets::KEYS]
-    requires { at < most_keys }
-    ensures { result ≡ shut at false xs }
-{
-    let mut ys = xs;
-    let mut j = at;
-    while j < 31 {
-        ys[j] = xs[j + 1];
-        j += 1;
-    }
-    ys[31] = false;
-    ys
-}
-
-fn shut_list(xs: [IdList; Sets::KEYS], at: usize) -> [IdList; Sets::KEYS]
-    requires { at < most_keys }
-    ensures { result ≡ shut at empty_list xs }
-{
-    let mut ys = xs;
-    let mut j = at;
-    while j < 31 {
-        let x = xs[j + 1];
-        ys[j] = x;
-        j += 1;
-    }
-    ys[31] = IdList::empty();
-    ys
+    let mut moved = values;
+    moved.copy_within(at + 1.., at);
+    moved[Sets::KEYS - 1] = last;
+    moved
 }
 
 impl Sets {
@@ -292,25 +181,16 @@ impl Sets {
     pub fn opened_at(self, at: usize, key: u32, on: bool, list: IdList) -> Self
         ensures { result ≡ opened_sets self at key on list }
     {
-        let count = self.count;
-        if Self::KEYS <= at {
+        if Self::KEYS <= at || Self::KEYS <= self.count {
             return self;
         }
-        if Self::KEYS <= count {
-            return self;
-        }
-        let keys = self.keys;
-        let flags = self.on;
-        let confirmed = self.confirmed;
-        let shown = self.shown;
-        let draft = self.draft;
         Self {
-            count: count + 1,
-            keys: open_u32(keys, at, key),
-            on: open_flag(flags, at, on),
-            confirmed: open_u32(confirmed, at, 0),
-            shown: open_list(shown, at, IdList::empty()),
-            draft: open_list(draft, at, list),
+            count: self.count + 1,
+            keys: opened(self.keys, at, key),
+            on: opened(self.on, at, on),
+            confirmed: opened(self.confirmed, at, 0),
+            shown: opened(self.shown, at, IdList::empty()),
+            draft: opened(self.draft, at, list),
         }
     }
 }
@@ -320,25 +200,16 @@ impl Sets {
     pub fn shut_at(self, at: usize) -> Self
         ensures { result ≡ shut_sets self at }
     {
-        let count = self.count;
-        if Self::KEYS <= at {
+        if Self::KEYS <= at || self.count <= at {
             return self;
         }
-        if count <= at {
-            return self;
-        }
-        let keys = self.keys;
-        let flags = self.on;
-        let confirmed = self.confirmed;
-        let shown = self.shown;
-        let draft = self.draft;
         Self {
-            count: count - 1,
-            keys: shut_u32(keys, at),
-            on: shut_flag(flags, at),
-            confirmed: shut_u32(confirmed, at),
-            shown: shut_list(shown, at),
-            draft: shut_list(draft, at),
+            count: self.count - 1,
+            keys: shut(self.keys, at, 0),
+            on: shut(self.on, at, false),
+            confirmed: shut(self.confirmed, at, 0),
+            shown: shut(self.shown, at, IdList::empty()),
+            draft: shut(self.draft, at, IdList::empty()),
         }
     }
 }
@@ -351,16 +222,10 @@ impl Sets {
     pub fn shown_count(self) -> usize
         ensures { result ≡ length (sets_in self) }
     {
-        let end = lists::least(self.count, Self::KEYS);
-        let mut n = 0;
-        let mut k = 0;
-        while k < end {
-            let shown = self.shown[k];
-            if shown.len != 0 {
-                n += 1;
-            }
-            k += 1;
-        }
-        n
+        self.shown
+            .iter()
+            .take(self.count)
+            .filter(|list| list.len != 0)
+            .count()
     }
 }

@@ -1,60 +1,51 @@
--- What stands in front of a set's identifiers: where the code finds no head, and where it finds one.
-use Prim.Native.Nat.{ℕ, ◌<◌}
-use mathlib.Core.Path.{◌≡◌, sym, ap, ◌∙◌}
+-- What stands in front of a set's identifiers: its numbers, one after another.
+use Prim.Native.Nat.{ℕ}
+use mathlib.Core.Path.{◌≡◌, refl}
 use mathlib.Core.List.{List}
-use mathlib.Core.Option.{none, some}
+use mathlib.Core.Option.{Option, some}
 use lib.Dec.{leb, eqb}
+use Rattle.std.specs.Prelude as lang
 use Rattle.rules.specs.Collecting.{names_meet}
-use Rattle.layout.specs.Parse.{read_if, key_fits, count_fits, read_head}
-use Rattle.layout.proofs.ParseLaws.{then_go, then_none}
-use Rattle.rules.proofs.TableRules.{names_small}
-use Rattle.sheet.specs.declared.ReadNumber.TheVariants as number
-use Rattle.sheet.specs.declared.ReadHead.TheVariants as head
-use Rattle.sheet.specs.Reading.{number_as, head_of, head_as}
-use Rattle.sheet.proofs.Tests.{number_none, number_some, if_true}
+use Rattle.layout.specs.Parse.{Read, and_then, read_if, key_fits, count_fits, Head, read_head}
+use Rattle.sheet.specs.declared.Reader.{Reader}
+use Rattle.sheet.specs.declared.SetHead.{SetHead}
+use Rattle.sheet.specs.Reading.{Reads, head_of}
+use Rattle.sheet.proofs.Steps.{then_not, then_reads, reads_made}
 
-module _ (last : ℕ) (bytes : List ℕ) (at : ℕ) where
-  -- no head
-  abbrev pub NoHead : Type 0
-  NoHead = head.Wrong ≡ head_as (read_head last bytes at)
+abbrev head_with : ℕ → ℕ → ℕ → ℕ → Head
+head_with key on named count = record { key = key; on = eqb on 1; named = named; count = count }
 
-  pub head_no_key : number.Wrong ≡ number_as (read_if (key_fits last) bytes at) → NoHead
-  unfolding read_head head_as
-  head_no_key k =
-      let e : read_head last bytes at ≡ none = then_none _ (number_none _ k) in
-      sym (ap head_as e)
+-- what follows the named kinds, the state, the key
+abbrev after_named : ℕ → ℕ → List ℕ → ℕ → ℕ → Option (Read Head)
+after_named key on bytes named c = and_then (read_if count_fits bytes c) (λ count next. some (record { value = head_with key on named count; next = next }))
 
-  module _ (key a : ℕ) (k : number.At key a ≡ number_as (read_if (key_fits last) bytes at)) where
-    pub head_no_on : number.Wrong ≡ number_as (read_if (λ on. leb on 1) bytes a) → NoHead
-    unfolding read_head head_as
-    head_no_on o =
-        let e : read_head last bytes at ≡ none = then_go _ _ (number_some _ key a k) ∙ then_none _ (number_none _ o) in
-        sym (ap head_as e)
+abbrev after_on : ℕ → List ℕ → ℕ → ℕ → Option (Read Head)
+after_on key bytes on b = and_then (read_if (names_meet key) bytes b) (λ named c. after_named key on bytes named c)
 
-    module _ (on b : ℕ) (o : number.At on b ≡ number_as (read_if (λ on. leb on 1) bytes a)) where
-      pub head_no_names : number.Wrong ≡ number_as (read_if (names_meet key) bytes b) → NoHead
-      unfolding read_head head_as
-      head_no_names n =
-          let e : read_head last bytes at ≡ none =
-          then_go _ _ (number_some _ key a k) ∙ then_go _ _ (number_some _ on b o) ∙ then_none _ (number_none _ n) in
-          sym (ap head_as e)
+abbrev after_key : List ℕ → ℕ → ℕ → Option (Read Head)
+after_key bytes key a = and_then (read_if (λ on. leb on 1) bytes a) (λ on b. after_on key bytes on b)
 
-      module _ (named c : ℕ) (n : number.At named c ≡ number_as (read_if (names_meet key) bytes b)) where
-        pub head_no_count : number.Wrong ≡ number_as (read_if count_fits bytes c) → NoHead
-        unfolding read_head head_as
-        head_no_count m =
-            let e : read_head last bytes at ≡ none =
-            then_go _ _ (number_some _ key a k) ∙ then_go _ _ (number_some _ on b o) ∙ then_go _ _ (number_some _ named c n) ∙ then_none _ (number_none _ m) in
-            sym (ap head_as e)
+module _ {old new end : Reader} {given : lang.Option SetHead} where
+  pub no_key : (last : ℕ) → Reads (λ n. n) (read_if (key_fits last) old.bytes.now old.at) old lang.None new → given ≡ lang.None
+      → Reads head_of (read_head last old.bytes.now old.at) old given end
+  unfolding read_head
+  no_key last e h = then_not _ e h
 
-        pub head_made : (count next : ℕ) → number.At count next ≡ number_as (read_if count_fits bytes c)
-            → head.At (record { key = key; on = eqb on 1; named = named; count = count }) next ≡ head_as (read_head last bytes at)
-        unfolding read_head head_as head_of
-        head_made count next m =
-            let e : read_head last bytes at ≡ some (record { value = record { key = key; on = eqb on 1; named = named; count = count }; next = next }) =
-            then_go _ _ (number_some _ key a k) ∙ then_go _ _ (number_some _ on b o) ∙ then_go _ _ (number_some _ named c n) ∙ then_go _ _ (number_some _ count next m) in
-            sym (ap head_as e)
+  pub with_key : (last : ℕ) {key : ℕ} → Reads (λ n. n) (read_if (key_fits last) old.bytes.now old.at) old (lang.Some key) new
+      → Reads head_of (after_key new.bytes.now key new.at) new given end → Reads head_of (read_head last old.bytes.now old.at) old given end
+  unfolding read_head
+  with_key last e h = then_reads after_key e h
 
-        -- named kinds that pass are few enough for a byte
-        pub head_names : named < 4
-        head_names = names_small key named (if_true (names_meet key) bytes b named c n)
+  pub with_on : (key : ℕ) {on : ℕ} → Reads (λ n. n) (read_if (λ on. leb on 1) old.bytes.now old.at) old (lang.Some on) new
+      → Reads head_of (after_on key new.bytes.now on new.at) new given end → Reads head_of (after_key old.bytes.now key old.at) old given end
+  with_on key e h = then_reads (after_on key) e h
+
+  pub with_named : (key on : ℕ) {named : ℕ} → Reads (λ n. n) (read_if (names_meet key) old.bytes.now old.at) old (lang.Some named) new
+      → Reads head_of (after_named key on new.bytes.now named new.at) new given end → Reads head_of (after_on key old.bytes.now on old.at) old given end
+  with_named key on e h = then_reads (after_named key on) e h
+
+pub with_count : {old new : Reader} (key on named : ℕ) {count : ℕ} → Reads (λ n. n) (read_if count_fits old.bytes.now old.at) old (lang.Some count) new
+    → Reads head_of (after_named key on old.bytes.now named old.at) old
+    (lang.Some (record { key = key; on = eqb on 1; named = named; count = count })) new
+unfolding head_of
+with_count key on named e = reads_made (head_with key on named) (λ n. record { key = key; on = eqb on 1; named = named; count = n }) (λ n. refl) e

@@ -3,10 +3,11 @@
 use Prim.Native.Nat.{ℕ, ◌+◌, ◌-◌, ◌*◌, ◌<◌, ◌≤◌}
 use native.Mathlib.Numerals.{add-one}
 use native.Mathlib.Omega.{arith}
-use mathlib.Core.Path.{◌≡◌, ap, ◌∙◌}
-use mathlib.Core.Bool.{Bool, true}
+use mathlib.Core.Path.{◌≡◌, refl, ap, ◌∙◌}
+use mathlib.Core.Bool.{Bool, true, false}
 use mathlib.Core.List.{List, [], ◌∷◌, ◌++◌, append_assoc}
 use lib.ListN.{length, get_or, drop, length-append}
+use Rattle.std.specs.Int.{from_bool}
 use Rattle.rules.specs.Block.{bit}
 use Rattle.rules.specs.Field.{Pair, pair}
 use Rattle.rules.specs.Collecting.{Content, Shown, meets, shown_sets, most_keys, most_ids}
@@ -15,16 +16,23 @@ use Rattle.layout.proofs.Laws.{shown_entries, sets_most}
 use Rattle.rules.proofs.TableRules.{sets_meet_law, table_rules, shown_few}
 use Rattle.lists.specs.declared.IdList.{IdList}
 use Rattle.lists.specs.Stored.{pairs_in}
-use Rattle.lists.proofs.Pairs.{length_pairs_in, drop_pairs, drop_pairs_end}
+use Rattle.lists.proofs.PairLaws.{length_pairs_in, drop_pairs, drop_pairs_end}
 use Rattle.lists.proofs.StoredLaws.{holds_facts}
 use Rattle.sets.specs.declared.Sets.{Sets}
 use Rattle.sets.specs.Stored.{store_sets, SetsStored, past, EachHolds}
 use Rattle.sets.specs.Shown.{set_in, shown_as, shown_at, sets_from, sets_in}
 use Rattle.sets.proofs.SetsLaws.{stored_facts}
 use Rattle.sets.proofs.ShownLaws.{sets_next, sets_stored}
-use Rattle.out.specs.Put.{Puts}
-use Rattle.out.proofs.Runs.{puts_as, puts_then}
+use Rattle.out.specs.declared.Page.{Page}
+use Rattle.out.specs.Page.{Writes}
+use Rattle.out.proofs.Pages.{writes_as, writes_then}
 use Rattle.sheet.proofs.Groups.{number_short}
+
+-- a flag as a number
+pub flag_bit : (on : Bool) → from_bool on ≡ bit on
+unfolding bit
+flag_bit true = refl
+flag_bit false = refl
 
 -- ---- identifiers
 
@@ -116,6 +124,5 @@ module _ (t : Sets) (c : Content) (m : meets c ≡ true) (e : t ≡ store_sets c
   pub size_sheet : {n size : ℕ} → n ≡ length (sheet_number count) → size ≡ length (sheet_sets (sets_in t)) → n + size ≡ length (sheet c)
   size_sheet a b = omega (arith, length-append (sheet_number count) (sheet_sets (sets_in t)), ap length sheet_of)
 
-  pub puts_sheet : {old mid new : List ℕ} {i p end : ℕ} → Puts old i (sheet_number count) mid p → Puts mid p (sheet_sets (sets_in t)) new end
-      → Puts old i (sheet c) new end
-  puts_sheet a b = puts_as sheet_of (puts_then a b)
+  pub writes_sheet : {p q r : Page} → Writes p (sheet_number count) q → Writes q (sheet_sets (sets_in t)) r → Writes p (sheet c) r
+  writes_sheet a b = writes_as sheet_of (writes_then a b)

@@ -1,14 +1,9 @@
 -- What loading a sheet answers, as the code hands it over.
 use Rattle.std.specs.Prelude.{ℕ, ◌≡◌, List}
-use Rattle.rules.specs.declared.Outcome.TheVariants.{NotASheet}
-use Rattle.rules.specs.Collecting.{Content, nothing}
+use Rattle.rules.specs.Collecting.{Content}
 use Rattle.layout.specs.Sheet.{Load}
 use Rattle.table.specs.Stored.{store_table}
 use Rattle.sheet.specs.declared.Loaded.{Loaded}
-
--- outcome 10 and the empty table
-unfoldable pub not_loaded : Loaded
-not_loaded = record { outcome = NotASheet; table = store_table nothing }
 
 -- loading answers this outcome, and the table is the stored form of the content that loading leaves
 pub record Loads (bytes : List ℕ) (r : Loaded) : Type 0 where

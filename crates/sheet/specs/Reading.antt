@@ -1,66 +1,57 @@
--- What was read of a sheet (Parse of crate layout), as the code hands it over: it with the place after it, or nothing.
-use Rattle.std.specs.Prelude.{ℕ, true, false, List, [], ◌∷◌, ◌++◌}
-use Rattle.std.proofs.Math.Option.{Option, none, some}
+-- What was read of a sheet (Parse of crate layout), as the code hands it over.
+use Rattle.std.specs.Prelude.{ℕ, Bool, ◌^◌, ◌<◌, List, [], ◌∷◌, ◌++◌, ◌≡◌, Option, None, Some}
+use Rattle.std.specs.Option.{option_map}
+use Rattle.std.proofs.Math.Option as maths
 use Rattle.rules.specs.Field.{Pair, pair}
-use Rattle.rules.specs.Collecting.{Entries, Shown}
+use Rattle.rules.specs.Collecting.{Entries, Content, Shown}
 use Rattle.layout.specs.Parse.{Read, Head}
-use Rattle.lists.specs.Stored.{empty_list, store_list}
+use Rattle.lists.specs.declared.IdList.{IdList}
+use Rattle.lists.specs.Stored.{store_list}
+use Rattle.sets.specs.declared.Sets.{Sets}
 use Rattle.sets.specs.Stored.{store_sets}
-use Rattle.totals.specs.Totals.{no_totals}
+use Rattle.totals.specs.declared.Totals.{Totals}
 use Rattle.totals.specs.Kept.{kept_up}
-use Rattle.sheet.specs.declared.ReadNumber.{ReadNumber}
-use Rattle.sheet.specs.declared.ReadNumber.TheVariants as number
+use Rattle.table.specs.declared.Table.{Table}
+use Rattle.table.specs.Stored.{store_table}
+use Rattle.sheet.specs.declared.Reader.{Reader}
 use Rattle.sheet.specs.declared.SetHead.{SetHead}
-use Rattle.sheet.specs.declared.ReadHead.{ReadHead}
-use Rattle.sheet.specs.declared.ReadHead.TheVariants as head
-use Rattle.sheet.specs.declared.ReadPair.{ReadPair}
-use Rattle.sheet.specs.declared.ReadPair.TheVariants as item
-use Rattle.sheet.specs.declared.ReadList.{ReadList}
 use Rattle.sheet.specs.declared.ReadSet.{ReadSet}
-use Rattle.sheet.specs.declared.ReadSets.{ReadSets}
 
--- a number
-unfoldable pub number_as : Option (Read ℕ) → ReadNumber
-number_as none = number.Wrong
-number_as (some r) = number.At r.value r.next
+-- what is handed over of what the parser read: it, as f has it
+unfoldable pub handed : {A B : Type 0} → (A → B) → maths.Option (Read A) → Option B
+handed f maths.none = None
+handed f (maths.some r) = Some (f r.value)
+
+-- that is handed over, and where something was read, the reader that stood at old stands after it
+pub record Reads {A B : Type 0} (f : A → B) (o : maths.Option (Read A)) (old : Reader) (given : Option B) (new : Reader) : Type 0 where
+  pub given_is : given ≡ handed f o
+  pub stands : (r : Read A) → o ≡ maths.some r → new ≡ record { bytes = old.bytes; at = r.next }
+
+-- what a test of the code's answers, P, is what this one does
+abbrev pub Decides : (ℕ → Bool → Type 0) → (ℕ → Bool) → Type 0
+Decides P test = (n : ℕ) (answer : Bool) → n < 2 ^ 32 → P n answer → answer ≡ test n
 
 -- what stands in front of a set's pairs, field by field
 unfoldable pub head_of : Head → SetHead
 head_of h = record { key = h.key; on = h.on; named = h.named; count = h.count }
 
--- and that with the place after it
-unfoldable pub head_as : Option (Read Head) → ReadHead
-head_as none = head.Wrong
-head_as (some r) = head.At (head_of r.value) r.next
-
--- the other way round, since the parser hands over a list with the pair at its end: the list with this pair
-unfoldable pub pair_read : List Pair → ReadPair → Option (Read (List Pair))
-pair_read acc item.Wrong = none
-pair_read acc (item.At k n next) = some (record { value = acc ++ pair k n ∷ []; next = next })
-
--- no list: no pair and place 0
-unfoldable pub no_list : ReadList
-no_list = record { ok = false; list = empty_list; next = 0 }
+-- pairs and one more, since the parser hands over the list with the pair at its end
+unfoldable pub longer : List Pair → Option (ℕ × ℕ) → Option (List Pair)
+longer acc given = option_map (λ (x : ℕ × ℕ). acc ++ pair x.0 x.1 ∷ []) given
 
 -- pairs, stored as a list with these named kinds
-unfoldable pub list_as : ℕ → Option (Read (List Pair)) → ReadList
-list_as named none = no_list
-list_as named (some r) = record { ok = true; list = store_list (record { items = r.value; named = named }); next = r.next }
-
--- no set
-unfoldable pub no_set : ReadSet
-no_set = record { ok = false; key = 0; on = false; list = empty_list; next = 0 }
+unfoldable pub list_of : ℕ → List Pair → IdList
+list_of named items = store_list (record { items = items; named = named })
 
 -- a set: its key, on or off, and its list as it is stored
-unfoldable pub set_as : Option (Read Shown) → ReadSet
-set_as none = no_set
-set_as (some r) = record { ok = true; key = r.value.key; on = r.value.on; list = store_list r.value.set; next = r.next }
-
--- no sets
-unfoldable pub no_sets : ReadSets
-no_sets = record { ok = false; sets = store_sets []; totals = no_totals; next = 0 }
+unfoldable pub set_as : Shown → ReadSet
+set_as s = record { key = s.key; on = s.on; list = store_list s.set }
 
 -- sets, as they are stored, and their totals, one set after another
-unfoldable pub sets_as : Option (Read Entries) → ReadSets
-sets_as none = no_sets
-sets_as (some r) = record { ok = true; sets = store_sets r.value; totals = kept_up r.value; next = r.next }
+unfoldable pub sets_as : Entries → Sets × Totals
+sets_as t = (store_sets t, kept_up t)
+
+-- a content, as its table is stored
+unfoldable pub table_of_sheet : maths.Option Content → Option Table
+table_of_sheet maths.none = None
+table_of_sheet (maths.some t) = Some (store_table t)

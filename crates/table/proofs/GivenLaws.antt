@@ -5,33 +5,32 @@ use mathlib.Core.Path.{◌≡◌, refl, sym, ap, ap₂, ◌∙◌, subst}
 use mathlib.Core.Bool.{Bool, true, false, ◌&&◌, false≢true}
 use mathlib.Core.List.{List, [], ◌∷◌, ◌++◌, map}
 use mathlib.Core.Option.{Option, none}
+use Rattle.std.specs.Prelude.{Some, None}
 use lib.ListN.{length, get_or, take, replicate}
-use lib.Dec.{leb, ltb, eqb}
+use lib.Dec.{leb, ltb}
 use borrow.Author.Tests.{ltb-true, le-leb}
 use Rattle.rules.specs.Arrays.{padded}
-use Rattle.rules.specs.declared.Outcome.{Outcome}
 use Rattle.rules.specs.declared.Outcome.TheVariants.{Done, NotHeld}
 use Rattle.rules.specs.Family.{find}
 use Rattle.rules.specs.Collecting.{linkage, Held, Entries, Content, with_sets, meets, numbers_within, if_there, most_keys, most_blocks}
 use Rattle.rules.specs.Outcomes.{forget_outcome, forgotten, held_or, not_copied, copy_held, copy_out}
-use Rattle.rules.proofs.Basics.{and_left}
+use Rattle.rules.proofs.Basics.{and_left, cases_bool}
 use Rattle.rules.proofs.TableRules.{lawful, table_rules, table_meets_law, numbers_within_law, content_meets, sets_meet_law, entry_rules}
 use Rattle.rules.proofs.Entries.{find_here, find_not_here, forget_not_here, column_at}
 use Rattle.lists.specs.Stored.{empty_list, store_maybe, Tested}
 use Rattle.sets.specs.declared.Sets.{Sets}
 use Rattle.sets.specs.Stored.{key_in, on_in, confirmed_in, shown_in, store_sets, SetsStored, past, shut_sets}
-use Rattle.sets.specs.Places.{place_in}
+use Rattle.sets.specs.Places.{place_in, stands_at}
 use Rattle.sets.proofs.Entries.{Here, no_entry, entry_at_law}
-use Rattle.sets.proofs.PlaceLaws.{place_at, store_forgets, Roomy, stored_short, stored_shown}
+use Rattle.sets.proofs.PlaceLaws.{place_at, stands, stands_not, store_forgets, Roomy, stored_short, stored_shown}
 use Rattle.sets.proofs.Contents.{store_injective}
 use Rattle.totals.specs.declared.Totals.{Totals}
 use Rattle.totals.specs.Totals.{totals_of}
 use Rattle.totals.specs.Kept.{without_set, totals_in, same_totals}
 use Rattle.totals.proofs.Laws.{same_is, is_same, sums_forgotten, sums_stored}
 use Rattle.table.specs.declared.Table.{Table}
-use Rattle.table.specs.declared.Copied.{Copied}
 use Rattle.table.specs.Stored.{table_of, store_table, Stored, Given, stored, not_stored}
-use Rattle.table.specs.Answers.{forgotten_as, copied_as, all_within, copy_stored}
+use Rattle.table.specs.Answers.{place_held, forgotten_as, all_within, copy_stored}
 use Rattle.table.proofs.Copies.{copy_stored_law}
 
 -- ---- the test of a table is that of its sets, that of their numbers and that of its totals
@@ -48,12 +47,11 @@ totals_stored t s =
 
 -- the numbers of its entries in their array, with zeros behind them
 within_zeros : (n k : ℕ) → all_within n (replicate k 0) ≡ true
-unfolding all_within
 within_zeros n zero = refl
 within_zeros n (suc k) = rw (le-leb 0 n (omega arith)) (within_zeros n k)
 
 within_entries : (n k : ℕ) (c : Entries) → all_within n (map confirmed_in c ++ replicate k 0) ≡ numbers_within n c
-unfolding all_within numbers_within confirmed_in
+unfolding numbers_within confirmed_in
 within_entries n k [] = within_zeros n k
 within_entries n k (e ∷ c) = ap (λ (b : Bool). leb e.stamp n && b) (within_entries n k c)
 
@@ -124,23 +122,44 @@ given_content c m s (not_stored n a) = absurd (n (c, m, s))
 pub tested_short : (t : Table) {b : Bool} → Tested b (Stored t) → b ≡ true → t.sets.count ≤ most_keys
 tested_short t w f = stored_short t.sets (sets_stored t (w.sound f))
 
--- the place at which a key stands, and how long the set there is
-module _ (t : Table) {b : Bool} (w : Tested b (Stored t)) (f : b ≡ true) (at k : ℕ)
-    (s : (ltb at t.sets.count && eqb (get_or t.sets.keys at 0) k) ≡ true) where
-  counted : at < t.sets.count
-  counted = ltb-true at t.sets.count (and_left (ltb at t.sets.count) _ s)
+-- the place at which a key stands, or that it stands nowhere
+module _ (t : Sets) (k at : ℕ) where
+  pub held_where : at ≡ place_in (take t.count t.keys) k
+      → (stands_at t.keys t.count at k ≡ true → Some at ≡ place_held t k) × (stands_at t.keys t.count at k ≡ false → None ≡ place_held t k)
+  unfolding place_held
+  held_where p =
+      (λ b. rw (ap (λ (i : ℕ). stands_at t.keys t.count i k) (sym p) ∙ b) (ap Some p), λ b. rw (ap (λ (i : ℕ). stands_at t.keys t.count i k) (sym p) ∙ b) refl)
 
-  pub stands_short : at < most_keys
-  stands_short = omega (arith, counted, stored_short t.sets (sets_stored t (w.sound f)))
+  where_held : place_held t k ≡ Some at → (at ≡ place_in (take t.count t.keys) k) × (stands_at t.keys t.count at k ≡ true)
+  unfolding place_held
+  where_held e =
+      cases_bool (stands_at t.keys t.count (place_in (take t.count t.keys) k) k)
+      (λ b. let f = rw b at e in let p : at ≡ place_in (take t.count t.keys) k = cc in (p, ap (λ (i : ℕ). stands_at t.keys t.count i k) p ∙ b))
+      (λ b. let f = rw b at e in cc)
 
-  pub stands_shown : Roomy (get_or t.sets.shown at past)
-  stands_shown = stored_shown t.sets (sets_stored t (w.sound f)) at counted
+not_held : (t : Sets) (k : ℕ) → place_held t k ≡ None → stands_at t.keys t.count (place_in (take t.count t.keys) k) k ≡ false
+unfolding place_held
+not_held t k e = cases_bool (stands_at t.keys t.count (place_in (take t.count t.keys) k) k) (λ b. let f = rw b at e in cc) (λ b. b)
+
+-- how long the set there is
+pub stands_shown : (t : Table) {b : Bool} → Tested b (Stored t) → b ≡ true → (at k : ℕ) → place_held t.sets k ≡ Some at → Roomy (get_or t.sets.shown at past)
+stands_shown t w f at k e =
+    stored_shown t.sets (sets_stored t (w.sound f)) at (ltb-true at t.sets.count (and_left (ltb at t.sets.count) _ (where_held t.sets k at e).1))
 
 -- ---- a key that is not held, and one that is
 
 module _ (t : Table) (c : Content) (m : meets c ≡ true) (e : t ≡ store_table c) where
   pub sets_are : t.sets ≡ store_sets c.sets
   sets_are = ap (λ (u : Table). u.sets) e
+
+  -- by the answer of `held_at`
+  pub held_none : (k : ℕ) → place_held t.sets k ≡ None → Here c.sets k → ⊥
+  held_none k h = stands_not t.sets c.sets sets_are _ k refl (not_held t.sets k h)
+
+  pub held_some : (k at : ℕ) → place_held t.sets k ≡ Some at → (at ≡ place_in (take t.sets.count t.sets.keys) k) × Here c.sets k
+  held_some k at h =
+      let w = where_held t.sets k at h in
+      (w.0, stands t.sets c.sets sets_are at k w.0 w.1)
 
   module _ (k : ℕ) (n : Here c.sets k → ⊥) where
     missing : find linkage k c.sets ≡ none
@@ -214,12 +233,3 @@ module _ (t : Table) (c : Content) (m : meets c ≡ true) (e : t ≡ store_table
         (λ j. copy_stored (set_is j) (sym key_is j) (on_is j) (number_is j) ns ks)
         ∙ copy_stored_law held.key held held.shown ns ks set_meets_law
         ∙ sym (ap (λ (f : Option Held). copy_held f ns ks) (find_here linkage lawful no_entry c.sets k h))
-
--- ---- the answer where nothing is copied
-
-abbrev pub bare : Outcome → Copied
-bare o = record { outcome = o; key = 0; on = false; named = 0; confirmed = 0; count = 0 }
-
-pub not_copied_as : (r : Copied) (o : Outcome) (ns ks : List ℕ) → r ≡ bare o → copied_as r ns ks ≡ not_copied o ns ks
-unfolding copied_as not_copied
-not_copied_as r o ns ks e = ap (λ (x : Copied). copied_as x ns ks) e

@@ -1,4 +1,3 @@
 -- The laws above the definitions of specs/.
 pub mod Copies
-pub mod Numbers
 pub mod GivenLaws

@@ -3,13 +3,14 @@
 // `pub` has a `requires`. The stored form is store_table of specs/Stored.antt; what a table may hold is `meets` of crate rules.
 #![tactic(auto)]
 
-ghost use Rattle.std.specs.Prelude.{◌≡◌, Bool, length, take, ◌≤◌};
-ghost use Rattle.rules.specs.Collecting.{nothing};
-ghost use Rattle.rules.specs.Outcomes.{copy_out, not_copied, overwritten};
+ghost use Rattle.std.specs.Prelude.{◌≡◌, length, ◌<◌, ◌≤◌, Ok, Err, IfSome};
+ghost use Rattle.rules.specs.declared.Outcome.TheVariants as Outcome;
+ghost use Rattle.rules.specs.Collecting.{nothing, most_keys};
+ghost use Rattle.rules.specs.Outcomes.{copy_out, not_copied};
 ghost use Rattle.lists.specs.Stored.{Tested};
-ghost use Rattle.totals.specs.Totals.{totals_of, no_totals};
+ghost use Rattle.totals.specs.Totals.{totals_of};
 ghost use Rattle.table.specs.Stored.{table_of, store_table, Stored, Given};
-ghost use Rattle.table.specs.Answers.{forgotten_as, copied_as, all_within, copy_stored};
+ghost use Rattle.table.specs.Answers.{no_totals_told, place_held, forgotten_as, outcome_of, copied_as, all_within, copy_stored};
 
 use lists::IdList;
 use rules::Outcome;
@@ -28,14 +29,7 @@ pub struct Table {
 fn all_within(numbers: &[u32], most: u32) -> bool
     ensures { result ≡ all_within most numbers.now }
 {
-    let mut i = 0;
-    while i < numbers.len() {
-        if most < numbers[i] {
-            return false;
-        }
-        i += 1;
-    }
-    true
+    numbers.iter().all(|n| *n <= most)
 }
 
 impl Table {
@@ -82,35 +76,47 @@ impl Table {
 
 // ---- the totals
 
-// What asking for the totals answers.
-#[derive(Clone, Copy)]
-pub struct Counted {
-    pub outcome: Outcome,
-    pub totals: Totals,
+// Why no totals are told, 9: the table breaks the table rules or has another stored form.
+#[derive(Clone, Copy, PartialEq, Eq)]
+pub struct WrongTable;
+
+impl From<WrongTable> for Outcome {
+    ghost from_gives = { λ _ o. o ≡ Outcome.WrongTable };
+
+    fn from(_why: WrongTable) -> Outcome {
+        Outcome::WrongTable
+    }
 }
 
 impl Table {
     // The totals as they are stored, which are the sums over the shown sets; or 9.
-    pub fn totals(self) -> Counted
-        ensures { Given self (λ c. result ≡ record { outcome = Outcome.Done; totals = totals_of c }) (result ≡ record { outcome = Outcome.WrongTable; totals = no_totals }) }
+    pub fn totals(self) -> Result<Totals, WrongTable>
+        ensures { Given self (λ c. result ≡ Ok (totals_of c)) (result ≡ Err no_totals_told) }
     {
         if !self.meets() {
-            return Counted {
-                outcome: Outcome::WrongTable,
-                totals: Totals::none(),
-            };
+            return Err(WrongTable);
         }
-        let totals = self.totals;
-        Counted {
-            outcome: Outcome::Done,
-            totals,
-        }
+        Ok(self.totals)
     }
+}
+
+// The place at which a key stands, where it is held.
+fn held_at(sets: &Sets, key: u32) -> Option<usize>
+    requires { sets.now.count ≤ most_keys }
+    ensures held { result ≡ place_held sets.now key }
+    ensures short { IfSome result (λ at. at < most_keys) }
+{
+    let at = sets::place_of(&sets.keys, sets.count, key);
+    if !sets::stands_at(&sets.keys, sets.count, at, key) {
+        return None;
+    }
+    Some(at)
 }
 
 // ---- forgetting
 
 // What forgetting a key answers and leaves.
+// Kept: a refusal hands the table back too (forget_key_refused of crate promises), which a Result with an error enum would not.
 #[derive(Clone, Copy)]
 pub struct Forgotten {
     pub outcome: Outcome,
@@ -128,14 +134,12 @@ pub fn forget_key(table: Table, key: u32) -> Forgotten
         };
     }
     let sets = table.sets;
-    let count = sets.count;
-    let at = sets::place_of(&sets.keys, count, key);
-    if !sets::stands_at(&sets.keys, count, at, key) {
+    let Some(at) = held_at(&sets, key) else {
         return Forgotten {
             outcome: Outcome::NotHeld,
             table,
         };
-    }
+    };
     let left = sets.shut_at(at);
     let gone = sets.shown[at];
     let totals = table.totals;
@@ -148,35 +152,10 @@ pub fn forget_key(table: Table, key: u32) -> Forgotten
 
 // ---- copying out
 
-// The first `n` of these numbers to the front of a lent buffer.
-fn copy_u32(from: &[u32], n: usize, to: &mut [u32])
-    requires { (n ≤ length from.now) × (n ≤ length to.old) }
-    ensures { to.new ≡ overwritten (take n from.now) to.old }
-{
-    let mut i = 0;
-    while i < n {
-        to[i] = from[i];
-        i += 1;
-    }
-}
-
-// The same for bytes.
-fn copy_u8(from: &[u8], n: usize, to: &mut [u8])
-    requires { (n ≤ length from.now) × (n ≤ length to.old) }
-    ensures { to.new ≡ overwritten (take n from.now) to.old }
-{
-    let mut i = 0;
-    while i < n {
-        to[i] = from[i];
-        i += 1;
-    }
-}
-
-// What copying a set out answers: `confirmed` is the number of the block at which the set was last shown, 0 for none since it was
-// loaded. The identifiers go into the lent buffers.
-#[derive(Clone, Copy)]
+// A set copied out: `confirmed` is the number of the block at which the set was last shown, 0 for none since it was loaded. Its
+// `count` identifiers go into the lent buffers.
+#[derive(Clone, Copy, PartialEq, Eq)]
 pub struct Copied {
-    pub outcome: Outcome,
     pub key: u32,
     pub on: bool,
     pub named: u8,
@@ -184,70 +163,81 @@ pub struct Copied {
     pub count: usize,
 }
 
-// The answer where nothing is copied.
-fn not_copied(outcome: Outcome) -> Copied
-    ensures { result ≡ record { outcome = outcome; key = 0; on = Bool.false; named = 0; confirmed = 0; count = 0 } }
-{
-    Copied {
-        outcome,
-        key: 0,
-        on: false,
-        named: 0,
-        confirmed: 0,
-        count: 0,
+// Why no set is copied out.
+#[derive(Clone, Copy, PartialEq, Eq)]
+pub enum NotCopied {
+    // 9: the table breaks the table rules or has another stored form
+    WrongTable,
+    // 7: the key is not held
+    NotHeld,
+    // 11: the key is held and its set not shown
+    NotShown,
+    // 8: one of the lent buffers is shorter than the set
+    ShortBuffer,
+}
+
+impl From<NotCopied> for Outcome {
+    ghost from_gives = { λ why o. o ≡ outcome_of why };
+
+    fn from(why: NotCopied) -> Outcome {
+        match why {
+            NotCopied::WrongTable => Outcome::WrongTable,
+            NotCopied::NotHeld => Outcome::NotHeld,
+            NotCopied::NotShown => Outcome::NotShown,
+            NotCopied::ShortBuffer => Outcome::ShortBuffer,
+        }
     }
 }
 
 // Copies a set out, where there is one: 11 and 8 (either buffer), with both as they were.
 fn copy_set(
-    set: IdList,
+    set: &IdList,
     key: u32,
     on: bool,
     confirmed: u32,
     numbers: &mut [u32],
     kinds: &mut [u8],
-) -> Copied
-    requires { (set.len ≤ length set.numbers) × (set.len ≤ length set.kinds) }
-    ensures { copied_as result numbers.new kinds.new ≡ copy_stored set key on confirmed numbers.old kinds.old }
+) -> Result<Copied, NotCopied>
+    requires { (set.now.len ≤ length set.now.numbers) × (set.now.len ≤ length set.now.kinds) }
+    ensures { copied_as result numbers.new kinds.new ≡ copy_stored set.now key on confirmed numbers.old kinds.old }
 {
-    let len = set.len;
-    if len == 0 {
-        return not_copied(Outcome::NotShown);
+    let count = set.len;
+    if count == 0 {
+        return Err(NotCopied::NotShown);
     }
-    if numbers.len() < len {
-        return not_copied(Outcome::ShortBuffer);
+    if numbers.len() < count || kinds.len() < count {
+        return Err(NotCopied::ShortBuffer);
     }
-    if kinds.len() < len {
-        return not_copied(Outcome::ShortBuffer);
-    }
-    copy_u32(&set.numbers, len, numbers);
-    copy_u8(&set.kinds, len, kinds);
-    Copied {
-        outcome: Outcome::Done,
+    numbers[..count].copy_from_slice(&set.numbers[..count]);
+    kinds[..count].copy_from_slice(&set.kinds[..count]);
+    Ok(Copied {
         key,
         on,
         named: set.named,
         confirmed,
-        count: len,
-    }
+        count,
+    })
 }
 
 // Copies a shown set out: its key, on or off, named kinds, the number of its block and count, the numbers and the kinds of its
 // identifiers to the front of two lent buffers. 9, then 7, 11 and 8 (either buffer), with both as they were.
-pub fn copy_out(table: Table, key: u32, numbers: &mut [u32], kinds: &mut [u8]) -> Copied
+pub fn copy_out(
+    table: Table,
+    key: u32,
+    numbers: &mut [u32],
+    kinds: &mut [u8],
+) -> Result<Copied, NotCopied>
     ensures { Given table
         (λ c. copied_as result numbers.new kinds.new ≡ copy_out key c numbers.old kinds.old)
         (copied_as result numbers.new kinds.new ≡ not_copied Outcome.WrongTable numbers.old kinds.old) }
 {
     if !table.meets() {
-        return not_copied(Outcome::WrongTable);
+        return Err(NotCopied::WrongTable);
     }
     let sets = table.sets;
-    let count = sets.count;
-    let at = sets::place_of(&sets.keys, count, key);
-    if !sets::stands_at(&sets.keys, count, at, key) {
-        return not_copied(Outcome::NotHeld);
-    }
+    let Some(at) = held_at(&sets, key) else {
+        return Err(NotCopied::NotHeld);
+    };
     let set = sets.shown[at];
-    copy_set(set, key, sets.on[at], sets.confirmed[at], numbers, kinds)
+    copy_set(&set, key, sets.on[at], sets.confirmed[at], numbers, kinds)
 }

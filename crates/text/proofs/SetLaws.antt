@@ -2,7 +2,7 @@
 -- stored table, and how long that is; an output whose text is said in another way.
 use Prim.Native.Nat.{ℕ, ◌+◌, ◌-◌, ◌<◌, ◌≤◌}
 use native.Mathlib.Omega.{arith}
-use mathlib.Core.Path.{◌≡◌, ap, ◌∙◌, subst}
+use mathlib.Core.Path.{◌≡◌, sym, ap, ◌∙◌, subst}
 use mathlib.Core.Bool.{Bool, true}
 use mathlib.Core.List.{List, [], ◌++◌}
 use lib.ListN.{length, get_or, length-append}
@@ -10,16 +10,17 @@ use Rattle.rules.specs.Collecting.{Content, meets, most_keys}
 use Rattle.rules.proofs.TableRules.{sets_meet_law}
 use Rattle.sets.specs.declared.Sets.{Sets}
 use Rattle.sets.specs.Stored.{past}
-use Rattle.sets.specs.Shown.{shown_at, confirmed_at, confirmed_from, sets_in, confirmed_sets_in}
+use Rattle.sets.specs.Shown.{confirmed_at, confirmed_from, sets_in, confirmed_sets_in}
 use Rattle.sets.proofs.ShownLaws.{from_skip, from_next, from_end, from_all, sets_stored, confirmed_stored}
 use Rattle.table.specs.declared.Table.{Table}
 use Rattle.table.specs.Stored.{store_table}
 use Rattle.table.proofs.GivenLaws.{sets_are}
-use Rattle.out.specs.declared.Written.{Written}
+use Rattle.std.specs.Prelude.{Result}
+use Rattle.out.specs.declared.Unwritten.{Unwritten}
 use Rattle.out.specs.Answer.{Outputs}
 use Rattle.text.specs.Listing.{tail_text}
-use Rattle.text.specs.Confirmed.{line_with}
-use Rattle.text.specs.Lines.{number_text, lines_in, first_text, listed}
+use Rattle.text.specs.Lines.{line_at, line_in, lines_in, first_text, listed}
+use Rattle.text.specs.declared.Line.{Line}
 use Rattle.text.proofs.Texts.{count_confirmed}
 
 -- ---- the lines of the sets from a place on, where `n` is the number of entries
@@ -31,10 +32,10 @@ module _ (numbered : Bool) (t : Sets) (i n : ℕ) where
   pub lines_skip : i < n → (get_or t.shown i past).len ≡ 0 → lines_from numbered t i n ≡ lines_from numbered t (i + 1) n
   lines_skip h z = ap (lines_in numbered) (from_skip confirmed_at t i n h z)
 
-  pub lines_next : i < n → ((get_or t.shown i past).len ≡ 0 → ⊥)
-      → lines_from numbered t i n ≡ line_with (number_text numbered (get_or t.confirmed i 0)) (shown_at t i) ++ lines_from numbered t (i + 1) n
+  pub lines_next : {line : Line} → line ≡ line_at numbered t i → i < n → ((get_or t.shown i past).len ≡ 0 → ⊥)
+      → lines_from numbered t i n ≡ line_in line (get_or t.shown i past) ++ lines_from numbered t (i + 1) n
   unfolding lines_in
-  lines_next h z = ap (lines_in numbered) (from_next confirmed_at t i n h z)
+  lines_next e h z = ap (lines_in numbered) (from_next confirmed_at t i n h z) ∙ ap (λ (l : Line). line_in l (get_or t.shown i past) ++ lines_from numbered t (i + 1) n) (sym e)
 
   pub lines_end : n ≤ i → lines_from numbered t i n ≡ []
   unfolding lines_in
@@ -70,6 +71,6 @@ module _ (numbered : Bool) (t : Table) (c : Content) (m : meets c ≡ true) (e :
       )
 
 -- an output whose text is said in another way
-pub outputs_as : {F G : Content → List ℕ} (t : Table) (old : List ℕ) (r : Written) (new : List ℕ) → ((c : Content) → F c ≡ G c)
+pub outputs_as : {F G : Content → List ℕ} (t : Table) (old : List ℕ) (r : Result ℕ Unwritten) (new : List ℕ) → ((c : Content) → F c ≡ G c)
     → Outputs F t old r new → Outputs G t old r new
 outputs_as t old r new e h = subst (λ (text : Content → List ℕ). Outputs text t old r new) (λ i c. e c i) h

@@ -1,24 +1,49 @@
--- Laws of the listing's text. In order: how long the texts are, and a set's line by its parts; that without the numbers the whole is
--- the listing, and with them the listing with numbers.
+-- Laws of the listing's text. In order: the kinds that a list names; its pairs, one after another; how long the texts are, and a set's line by its parts; that without
+-- the numbers the whole is the listing, and with them the listing with numbers.
 use Prim.Native.Nat.{ℕ, ◌+◌, ◌*◌, ◌/◌, ◌%◌}
 use native.Mathlib.Nat.{zero-mul, suc-mul}
 use native.Mathlib.Omega.{arith}
 use mathlib.Core.Path.{◌≡◌, refl, sym, ap, ap₂, ◌∙◌}
+use mathlib.Core.Logic.{◌⊎◌, inl, inr}
 use mathlib.Core.Bool.{Bool, true, false, cond}
 use mathlib.Core.List.{List, [], ◌∷◌, ◌++◌, map, append-nil}
 use lib.ListN.{length, length-append, length-map}
 use lib.Dec.{eqb}
-use Rattle.rules.specs.Field.{Pair, rds, drm}
-use Rattle.rules.specs.Collecting.{Content, Shown, shown_sets, Confirmed, confirmed_sets, key_width}
+use Rattle.rules.specs.Field.{Pair, pair, rds, drm}
+use Rattle.rules.specs.Collecting.{Content, Shown, shown_sets, Confirmed, confirmed_sets, key_width, kind_named}
+use Rattle.rules.proofs.Basics.{cases_bool}
 use Rattle.rules.proofs.TableRules.{bare_shown, confirmed_shown}
 use Rattle.out.specs.Text.{decimal}
 use Rattle.text.specs.Listing.{state_text, pair_text, pairs_text, dead_text, ids_text, line_of, lines_of, tail_text, listing}
 use Rattle.text.specs.Confirmed.{line_with, blocks_text, confirmed_line, confirmed_lines, confirmed_listing}
-use Rattle.text.specs.Lines.{number_text, lines_in, first_text, listed}
+use Rattle.text.specs.Lines.{mark_text, number_text, lines_in, first_text, listed}
 use Rattle.lists.specs.declared.IdList.{IdList}
-use Rattle.lists.specs.Stored.{pairs_in}
+use Rattle.lists.specs.Stored.{paired, pairs_in}
 use Rattle.out.proofs.Digits.{length_hex}
 use Rattle.sets.specs.Shown.{set_in, shown_as}
+
+-- ---- the kinds that a list names
+
+pub names_rds : (named : ℕ) → kind_named named rds ≡ eqb (named % 2) 1
+unfolding kind_named
+names_rds named = cases_bool (eqb (named % 2) 1) (λ e. rw e) (λ e. rw e)
+
+pub names_drm : (named : ℕ) → kind_named named drm ≡ eqb (named / 2) 1
+unfolding kind_named
+names_drm named = refl
+
+-- ---- kinds and numbers side by side, one pair after another
+
+pub paired_next : {ks ks' ns ns' : List ℕ} {k n : ℕ} → ks ≡ k ∷ ks' → ns ≡ n ∷ ns' → paired ks ns ≡ pair k n ∷ paired ks' ns'
+unfolding paired
+paired_next e f = ap₂ paired e f
+
+-- where one of the two is at its end there is no pair
+pub paired_end : (ks ns : List ℕ) → (length ks ≡ 0) ⊎ (length ns ≡ 0) → paired ks ns ≡ []
+unfolding paired
+paired_end [] ns h = refl
+paired_end (k ∷ ks) [] h = refl
+paired_end (k ∷ ks) (n ∷ ns) h = absurd (elim h [ inl e ↦ omega arith | inr e ↦ omega arith ])
 
 -- ---- how long the texts are
 
@@ -48,11 +73,20 @@ module _ (text : List ℕ) (key : ℕ) (on : Bool) (list : IdList) where
       → number ≡ length text
       → digits ≡ length (decimal (length (pairs_in list.kinds list.numbers list.len)))
       → pairs ≡ length (pairs_in list.kinds list.numbers list.len) * (2 + 2 * key_width key)
-      → rds-mark ≡ length (dead_text rds (eqb (list.named % 2) 1) (pairs_in list.kinds list.numbers list.len))
-      → drm-mark ≡ length (dead_text drm (eqb (list.named / 2) 1) (pairs_in list.kinds list.numbers list.len))
-      → 4 + state + number + 5 + digits + pairs + rds-mark + drm-mark + 1 ≡ length (line_with text (shown_as key on list))
+      → rds-mark ≡ length (mark_text rds list)
+      → drm-mark ≡ length (mark_text drm list)
+      → 4 + state + number + 5 + digits + pairs + (rds-mark + drm-mark) + 1 ≡ length (line_with text (shown_as key on list))
   unfolding line_with shown_as set_in ids_text
-  length_line s n d p r m = simp length-append (omega (arith, length_hex 4 key, length_pairs_text (key_width key) (pairs_in list.kinds list.numbers list.len)))
+  length_line s n d p r m =
+      let ids = pairs_in list.kinds list.numbers list.len in
+      simp length-append
+      (omega (
+        arith,
+        length_hex 4 key,
+        length_pairs_text (key_width key) ids,
+        ap (λ (b : Bool). length (dead_text rds b ids)) (names_rds list.named),
+        ap (λ (b : Bool). length (dead_text drm b ids)) (names_drm list.named),
+      ))
 
 -- ---- the whole, without the numbers and with them
 

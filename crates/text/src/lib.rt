@@ -1,105 +1,107 @@
 // The listing's text (document 01, example 16), over a lent buffer, and the same with the numbers of blocks
 // (document 02, R-9): write_listing and write_confirmed refuse a buffer that is too short, and else write
 // the whole at its front. Both are one function inside, which is told whether lines are `numbered`; for
-// each part there are its size and a writer at a place. put_state and put_pairs are `pub` too, for a
+// each part there are its size and a writer on a page. put_state and put_pairs are `pub` too, for a
 // program that prints other lines of a table in the same words. Every function is proved and none that is
 // `pub` has a `requires`.
 #![tactic(auto)]
 
-ghost use Rattle.std.specs.Prelude.{◌≡◌, cond, [], ◌∷◌, ◌++◌, ◌+◌, ◌*◌, ◌≤◌, length};
+ghost use Rattle.std.specs.Prelude.{◌≡◌, cond, [], ◌∷◌, ◌++◌, ◌+◌, ◌*◌, ◌≤◌, ◌<◌, length};
 ghost use Rattle.rules.specs.Field.{pair};
 ghost use Rattle.rules.specs.Collecting.{key_width, most_keys, most_ids};
 ghost use Rattle.out.specs.Text.{hex_text, decimal};
-ghost use Rattle.text.specs.Listing.{state_text, kind_letter, pair_text, pairs_text, dead_text, ids_text, tail_text, listing};
-ghost use Rattle.text.specs.Confirmed.{line_with, confirmed_listing};
-ghost use Rattle.text.specs.Lines.{number_text, lines_in, first_text, listed};
-ghost use Rattle.lists.specs.Stored.{pairs_in};
-ghost use Rattle.out.specs.Put.{Puts};
+ghost use Rattle.text.specs.Listing.{state_text, kind_letter, pair_text, pairs_text, ids_text, tail_text, listing};
+ghost use Rattle.text.specs.Confirmed.{confirmed_listing};
+ghost use Rattle.text.specs.Lines.{mark_text, line_at, line_in, number_text, lines_in, first_text, listed};
+ghost use Rattle.lists.specs.Stored as Stored;
+ghost use Rattle.out.specs.Page.{Writes};
 ghost use Rattle.out.specs.Answer.{Outputs};
-ghost use Rattle.sets.specs.Shown.{shown_as, confirmed_sets_in};
+ghost use Rattle.sets.specs.Shown.{confirmed_sets_in};
 
-use lists::{IdList, is_dead, least, width_of};
-use out::{Written, decimal_size, put, put_bytes, put_decimal, put_hex};
-use rules::Outcome;
+use lists::{IdList, Pairs, kind_named, width_of};
+use out::{Page, Unwritten, decimal_size};
 use sets::Sets;
 use table::Table;
+
+// What stands in the line of a set beside its identifiers: its key, on or off, and its number, where lines are numbered.
+// Kept: no Option of a number, for all lines of a listing are numbered or none, and write_confirmed and write_listing say which.
+#[derive(Clone, Copy)]
+struct Line {
+    numbered: bool,
+    key: u32,
+    on: bool,
+    block: u32,
+}
+
+impl Line {
+    // Of the set at a place.
+    fn at(numbered: bool, sets: &Sets, i: usize) -> Line
+        requires { i < most_keys }
+        ensures { result ≡ line_at numbered sets.now i }
+    {
+        Line {
+            numbered,
+            key: sets.keys[i],
+            on: sets.on[i],
+            block: sets.confirmed[i],
+        }
+    }
+}
 
 // ---- the parts of a set's line
 
 // The letter of a kind: D, R, M.
+#[tactic(auto, unfolding(crate::specs::Listing::kind_letter))]
 fn letter_of(kind: u8) -> u8
     ensures { result ≡ kind_letter kind }
 {
-    if kind == rules::DAB {
-        68
-    } else if kind == rules::RDS {
-        82
-    } else {
-        77
+    match kind {
+        rules::DAB => b'D',
+        rules::RDS => b'R',
+        _ => b'M',
     }
 }
 
-// The mark of a kind, named or not, at a place: ` R-` or ` M-` of a named kind without identifiers,
-// nothing of another.
-fn put_mark<'a>(
-    out: &mut [u8],
-    at: usize,
-    kind: u8,
-    named: bool,
-    numbers: &'a [u32],
-    kinds: &'a [u8],
-    len: usize,
-) -> usize
-    ensures { Puts out.old at (dead_text kind named (pairs_in kinds.now numbers.now len)) out.new result }
+// The mark of a kind: ` R-` or ` M-` of one that the list names without identifiers, nothing of another.
+#[tactic(auto, using(out::proofs::Pages::writes_then, out::proofs::Pages::writes_none), unfolding(crate::specs::Listing::dead_text))]
+fn put_mark(page: &mut Page, kind: u8, list: &IdList)
+    ensures { Writes page.old (mark_text kind list.now) page.new }
 {
-    if is_dead(kind, named, numbers, kinds, len) {
-        let p = put(out, at, 32);
-        let q = put(out, p, letter_of(kind));
-        put(out, q, 45)
-    } else {
-        least(at, out.len())
+    if list.pairs().is_dead(kind, kind_named(list.named, kind)) {
+        page.put(b' ');
+        page.put(letter_of(kind));
+        page.put(b'-');
     }
 }
 
 // The size of that.
-fn mark_size<'a>(kind: u8, named: bool, numbers: &'a [u32], kinds: &'a [u8], len: usize) -> usize
-    ensures { (result ≡ length (dead_text kind named (pairs_in kinds.now numbers.now len))) × (result ≤ 3) }
+#[tactic(auto, unfolding(crate::specs::Listing::dead_text))]
+fn mark_size(kind: u8, list: &IdList) -> usize
+    ensures { (result ≡ length (mark_text kind list.now)) × (result ≤ 3) }
 {
-    if is_dead(kind, named, numbers, kinds, len) {
+    if list.pairs().is_dead(kind, kind_named(list.named, kind)) {
         3
     } else {
         0
     }
 }
 
-// An identifier of a key at a place: a blank, its letter, and its number in 4, 6 or 8 digits.
-fn put_pair(out: &mut [u8], at: usize, key: u32, kind: u8, number: u32) -> usize
-    ensures { Puts out.old at (pair_text (key_width key) (pair kind number)) out.new result }
+// An identifier of a key: a blank, its letter, and its number in 4, 6 or 8 digits.
+fn put_pair(page: &mut Page, key: u32, kind: u8, number: u32)
+    ensures { Writes page.old (pair_text (key_width key) (pair kind number)) page.new }
 {
-    let p = put(out, at, 32);
-    let q = put(out, p, letter_of(kind));
-    put_hex(out, q, 2 * width_of(key), number)
+    page.put(b' ');
+    page.put(letter_of(kind));
+    page.put_hex(2 * width_of(key), number);
 }
 
-// The identifiers of a key at a place.
-pub fn put_pairs<'a>(
-    out: &mut [u8],
-    at: usize,
-    key: u32,
-    numbers: &'a [u32],
-    kinds: &'a [u8],
-    len: usize,
-) -> usize
-    ensures { Puts out.old at (pairs_text (key_width key) (pairs_in kinds.now numbers.now len)) out.new result }
+// The identifiers of a key.
+pub fn put_pairs(page: &mut Page, key: u32, pairs: Pairs)
+    ensures { Writes page.old (pairs_text (key_width key) (Stored.listed pairs.entry)) page.new }
 {
-    let end = least(len, least(kinds.len(), numbers.len()));
-    let mut p = least(at, out.len());
-    let mut i = 0;
-    while i < end {
-        p = put_pair(out, p, key, kinds[i], numbers[i]);
-        i += 1;
+    for (kind, number) in pairs.kinds.iter().zip(pairs.numbers) {
+        put_pair(page, key, *kind, *number);
     }
-    p
 }
 
 // The size of this many identifiers of a key.
@@ -110,40 +112,40 @@ fn pairs_size(key: u32, n: usize) -> usize
     n * (2 + 2 * width_of(key))
 }
 
-// A blank and on or off at a place.
-pub fn put_state(out: &mut [u8], at: usize, on: bool) -> usize
-    ensures { Puts out.old at (32 ∷ state_text on) out.new result }
+// A blank and on or off.
+#[tactic(auto, unfolding(crate::specs::Listing::state_text))]
+pub fn put_state(page: &mut Page, on: bool)
+    ensures { Writes page.old (32 ∷ state_text on) page.new }
 {
     if on {
-        put_bytes(out, at, b" on")
+        page.put_bytes(b" on");
     } else {
-        put_bytes(out, at, b" off")
+        page.put_bytes(b" off");
     }
 }
 
 // The size of that.
+#[tactic(auto, unfolding(crate::specs::Listing::state_text))]
 fn state_size(on: bool) -> usize
     ensures { (result ≡ length (32 ∷ state_text on)) × (result ≤ 4) }
 {
     if on { 3 } else { 4 }
 }
 
-// A word and a count at a place.
-fn put_counted<'a>(out: &mut [u8], at: usize, word: &'a [u8], n: usize) -> usize
-    ensures { Puts out.old at (word.now ++ decimal n) out.new result }
+// A word and a count.
+fn put_counted(page: &mut Page, word: &[u8], n: usize)
+    ensures { Writes page.old (word.now ++ decimal n) page.new }
 {
-    let p = put_bytes(out, at, word);
-    put_decimal(out, p, n)
+    page.put_bytes(word);
+    page.put_decimal(n);
 }
 
 // The same of a block's number, where lines are numbered; else nothing.
-fn put_numbered<'a>(out: &mut [u8], at: usize, numbered: bool, word: &'a [u8], n: u32) -> usize
-    ensures { Puts out.old at (cond numbered (word.now ++ decimal n) []) out.new result }
+fn put_numbered(page: &mut Page, numbered: bool, word: &[u8], n: u32)
+    ensures { Writes page.old (cond numbered (word.now ++ decimal n) []) page.new }
 {
     if numbered {
-        put_counted(out, at, word, n as usize)
-    } else {
-        least(at, out.len())
+        put_counted(page, word, n as usize);
     }
 }
 
@@ -161,173 +163,137 @@ fn numbered_size(numbered: bool, word: usize, n: u32) -> usize
 
 // ---- the line of a set
 
-// The line up to the identifiers, of which there are n, at a place.
-fn put_head(
-    out: &mut [u8],
-    at: usize,
-    numbered: bool,
-    key: u32,
-    on: bool,
-    block: u32,
-    n: usize,
-) -> usize
-    ensures { Puts out.old at (hex_text 4 key ++ 32 ∷ state_text on ++ (number_text numbered block ++ ids_text n)) out.new result }
+// The line up to the identifiers, of which there are n.
+fn put_head(page: &mut Page, line: Line, n: usize)
+    ensures { Writes page.old (hex_text 4 line.key ++ 32 ∷ state_text line.on ++ (number_text line.numbered line.block ++ ids_text n)) page.new }
 {
-    let p = put_hex(out, at, 4, key);
-    let q = put_state(out, p, on);
-    let r = put_numbered(out, q, numbered, b" #", block);
-    put_counted(out, r, b" ids ", n)
+    page.put_hex(4, line.key);
+    put_state(page, line.on);
+    put_numbered(page, line.numbered, b" #", line.block);
+    put_counted(page, b" ids ", n);
 }
 
 // The size of the line of a set.
-fn line_size(numbered: bool, key: u32, on: bool, block: u32, list: IdList) -> usize
-    ensures { (result ≡ length (line_with (number_text numbered block) (shown_as key on list))) × (result ≤ 1342) }
+fn line_size(line: Line, list: &IdList) -> usize
+    ensures { (result ≡ length (line_in line list.now)) × (result ≤ 1342) }
 {
-    let len = list.len;
-    let rds = list.named % 2 == 1;
-    let drm = list.named / 2 == 1;
-    let r = mark_size(1, rds, &list.numbers, &list.kinds, len);
-    let m = mark_size(3, drm, &list.numbers, &list.kinds, len);
-    let n = least(len, IdList::MOST);
-    let head = 4 + state_size(on) + numbered_size(numbered, 2, block) + 5 + decimal_size(n);
-    head + pairs_size(key, n) + r + m + 1
+    let n = list.len.min(IdList::MOST);
+    let head = 4
+        + state_size(line.on)
+        + numbered_size(line.numbered, 2, line.block)
+        + 5
+        + decimal_size(n);
+    let marks = mark_size(rules::RDS, list) + mark_size(rules::DRM, list);
+    head + pairs_size(line.key, n) + marks + 1
 }
 
-// The line of a set at a place.
-fn put_line(
-    out: &mut [u8],
-    at: usize,
-    numbered: bool,
-    key: u32,
-    on: bool,
-    block: u32,
-    list: IdList,
-) -> usize
-    ensures { Puts out.old at (line_with (number_text numbered block) (shown_as key on list)) out.new result }
+// The line of a set.
+fn put_line(page: &mut Page, line: Line, list: &IdList)
+    ensures { Writes page.old (line_in line list.now) page.new }
 {
-    let len = list.len;
-    let rds = list.named % 2 == 1;
-    let drm = list.named / 2 == 1;
-    let p = put_head(out, at, numbered, key, on, block, least(len, IdList::MOST));
-    let q = put_pairs(out, p, key, &list.numbers, &list.kinds, len);
-    let r = put_mark(out, q, rules::RDS, rds, &list.numbers, &list.kinds, len);
-    let m = put_mark(out, r, rules::DRM, drm, &list.numbers, &list.kinds, len);
-    put(out, m, 10)
+    put_head(page, line, list.len.min(IdList::MOST));
+    put_pairs(page, line.key, list.pairs());
+    put_mark(page, rules::RDS, list);
+    put_mark(page, rules::DRM, list);
+    page.put(b'\n');
 }
 
 // ---- the first line and the tail
 
 // The size of the first line.
+#[tactic(auto, using(crate::proofs::Texts::length_first))]
 fn first_size(numbered: bool, count: usize, blocks: u32) -> usize
     ensures { (result ≡ length (first_text numbered count blocks)) × (result ≤ 54) }
 {
     6 + decimal_size(count) + numbered_size(numbered, 8, blocks)
 }
 
-// The first line at a place.
-fn put_first(out: &mut [u8], at: usize, numbered: bool, count: usize, blocks: u32) -> usize
-    ensures { Puts out.old at (first_text numbered count blocks) out.new result }
+// The first line.
+fn put_first(page: &mut Page, numbered: bool, count: usize, blocks: u32)
+    ensures { Writes page.old (first_text numbered count blocks) page.new }
 {
-    let p = put_counted(out, at, b"sets ", count);
-    let q = put_numbered(out, p, numbered, b" blocks ", blocks);
-    put(out, q, 10)
+    put_counted(page, b"sets ", count);
+    put_numbered(page, numbered, b" blocks ", blocks);
+    page.put(b'\n');
 }
 
 // The size of the tail: 0 where no byte is left over.
+#[tactic(auto, unfolding(crate::specs::Listing::tail_text))]
 fn tail_size(over: usize) -> usize
     ensures { (result ≡ length (tail_text over)) × (result ≤ 26) }
 {
     if over == 0 { 0 } else { 6 + decimal_size(over) }
 }
 
-// The tail at a place.
-fn put_tail(out: &mut [u8], at: usize, over: usize) -> usize
-    ensures { Puts out.old at (tail_text over) out.new result }
+// The tail.
+fn put_tail(page: &mut Page, over: usize)
+    ensures { Writes page.old (tail_text over) page.new }
 {
-    if over == 0 {
-        least(at, out.len())
-    } else {
-        let p = put_counted(out, at, b"tail ", over);
-        put(out, p, 10)
+    if over != 0 {
+        put_counted(page, b"tail ", over);
+        page.put(b'\n');
     }
 }
 
 // ---- the whole listing
 
 // The size of the lines of the sets.
-fn lines_size(numbered: bool, sets: Sets) -> usize
-    requires { sets.count ≤ most_keys }
-    ensures { (result ≡ length (lines_in numbered (confirmed_sets_in sets))) × (result ≤ 42944) }
+fn lines_size(numbered: bool, sets: &Sets) -> usize
+    requires { sets.now.count ≤ most_keys }
+    ensures { (result ≡ length (lines_in numbered (confirmed_sets_in sets.now))) × (result ≤ 42944) }
 {
     let mut size = 0;
-    let mut i = 0;
-    while i < sets.count {
-        let list = sets.shown[i];
+    for i in 0..sets.count {
+        let list = &sets.shown[i];
         if list.len != 0 {
-            size += line_size(numbered, sets.keys[i], sets.on[i], sets.confirmed[i], list);
+            size += line_size(Line::at(numbered, sets, i), list);
         }
-        i += 1;
     }
     size
 }
 
-// The lines of the sets at a place.
-fn put_lines(out: &mut [u8], at: usize, numbered: bool, sets: Sets) -> usize
-    requires { sets.count ≤ most_keys }
-    ensures { Puts out.old at (lines_in numbered (confirmed_sets_in sets)) out.new result }
+// The lines of the sets.
+fn put_lines(page: &mut Page, numbered: bool, sets: &Sets)
+    requires { sets.now.count ≤ most_keys }
+    ensures { Writes page.old (lines_in numbered (confirmed_sets_in sets.now)) page.new }
 {
-    let mut p = least(at, out.len());
-    let mut k = 0;
-    while k < sets.count {
-        let set = sets.shown[k];
+    for k in 0..sets.count {
+        let set = &sets.shown[k];
         if set.len != 0 {
-            p = put_line(
-                out,
-                p,
-                numbered,
-                sets.keys[k],
-                sets.on[k],
-                sets.confirmed[k],
-                set,
-            );
+            put_line(page, Line::at(numbered, sets, k), set);
         }
-        k += 1;
     }
-    p
 }
 
 // The listing of a table, with the numbers or without, at the front of a buffer.
-fn write_lines(table: Table, numbered: bool, over: usize, out: &mut [u8]) -> Written
+fn write_lines(
+    table: Table,
+    numbered: bool,
+    over: usize,
+    out: &mut [u8],
+) -> Result<usize, Unwritten>
     ensures { Outputs (λ c. listed numbered c over) table out.old result out.new }
 {
     if !table.meets() {
-        return Written {
-            outcome: Outcome::WrongTable,
-            size: 0,
-        };
+        return Err(Unwritten::WrongTable);
     }
-    let sets = table.sets;
-    let count = sets.shown_count();
+    let sets = &table.sets;
+    let count = table.sets.shown_count();
     let blocks = table.blocks;
     let size = first_size(numbered, count, blocks) + lines_size(numbered, sets) + tail_size(over);
     if out.len() < size {
-        return Written {
-            outcome: Outcome::ShortBuffer,
-            size: 0,
-        };
+        return Err(Unwritten::ShortBuffer);
     }
-    let p = put_first(out, 0, numbered, count, blocks);
-    let q = put_lines(out, p, numbered, sets);
-    let end = put_tail(out, q, over);
-    Written {
-        outcome: Outcome::Done,
-        size: end,
-    }
+    let mut page = Page::over(out);
+    put_first(&mut page, numbered, count, blocks);
+    put_lines(&mut page, numbered, sets);
+    put_tail(&mut page, over);
+    Ok(page.size())
 }
 
 // The listing of a table, with this many bytes left over, at the front of a buffer: 9, then 8, each
 // with the buffer as it was.
-pub fn write_listing(table: Table, over: usize, out: &mut [u8]) -> Written
+pub fn write_listing(table: Table, over: usize, out: &mut [u8]) -> Result<usize, Unwritten>
     ensures { Outputs (λ c. listing c over) table out.old result out.new }
 {
     write_lines(table, false, over, out)
@@ -335,7 +301,7 @@ pub fn write_listing(table: Table, over: usize, out: &mut [u8]) -> Written
 
 // The same with the numbers: of each set that of the block at which it was last shown, and how many blocks
 // the table has counted.
-pub fn write_confirmed(table: Table, over: usize, out: &mut [u8]) -> Written
+pub fn write_confirmed(table: Table, over: usize, out: &mut [u8]) -> Result<usize, Unwritten>
     ensures { Outputs (λ c. confirmed_listing c over) table out.old result out.new }
 {
     write_lines(table, true, over, out)

@@ -3,57 +3,25 @@
 // Every function is proved and none that is `pub` has a `requires`. The sums are those of specs/Totals.antt.
 #![tactic(auto)]
 
-ghost use Rattle.std.specs.Prelude.{◌≡◌, ◌-◌};
-ghost use Rattle.rules.specs.Block.{bit};
+ghost use Rattle.std.specs.Prelude.{◌≡◌};
 ghost use Rattle.totals.specs.Totals.{no_totals};
-ghost use Rattle.totals.specs.Kept.{raised, of_set, alike, with_set, without_set, exchanged_set, totals_in, same_totals};
+ghost use Rattle.totals.specs.Kept.{of_set, alike, with_set, without_set, exchanged_set, totals_in, same_totals};
 
 use sets::Sets;
 
 // The three figures.
-#[derive(Clone, Copy)]
+#[derive(Clone, Copy, PartialEq, Eq)]
 pub struct Totals {
     pub shown: usize,
     pub on: usize,
     pub identifiers: usize,
 }
 
-// A figure and what is added to it, up to the largest number.
-fn raise(figure: usize, by: usize) -> usize
-    ensures { result ≡ raised figure by }
-{
-    let room = usize::MAX - figure;
-    if room < by {
-        return usize::MAX;
-    }
-    figure + by
-}
-
-// A figure without what is taken from it, down to 0.
-fn lower(figure: usize, by: usize) -> usize
-    ensures { result ≡ figure - by }
-{
-    if figure < by {
-        return 0;
-    }
-    figure - by
-}
-
-// A flag as a number.
-fn bit_of(on: bool) -> usize
-    ensures { result ≡ bit on }
-{
-    if on { 1 } else { 0 }
-}
-
 // Whether a set is counted as another is: as long, and both on or both off.
 fn is_alike(old_len: usize, was_on: bool, len: usize, on: bool) -> bool
     ensures { result ≡ alike old_len was_on len on }
 {
-    if old_len != len {
-        return false;
-    }
-    bit_of(was_on) == bit_of(on)
+    old_len == len && was_on == on
 }
 
 impl Totals {
@@ -77,20 +45,21 @@ impl Totals {
         }
         Self {
             shown: 1,
-            on: bit_of(on),
+            on: usize::from(on),
             identifiers: len,
         }
     }
 
     // With a set more, of so many identifiers, on or off.
+    // Kept: `len` and `on` apart here, in `without` and in `exchanged`, whose signatures docs/STATEMENTS.md names.
     pub fn with(self, len: usize, on: bool) -> Self
         ensures { result ≡ with_set self len on }
     {
         let set = Self::of_set(len, on);
         Self {
-            shown: raise(self.shown, set.shown),
-            on: raise(self.on, set.on),
-            identifiers: raise(self.identifiers, set.identifiers),
+            shown: self.shown.saturating_add(set.shown),
+            on: self.on.saturating_add(set.on),
+            identifiers: self.identifiers.saturating_add(set.identifiers),
         }
     }
 
@@ -100,9 +69,9 @@ impl Totals {
     {
         let set = Self::of_set(len, on);
         Self {
-            shown: lower(self.shown, set.shown),
-            on: lower(self.on, set.on),
-            identifiers: lower(self.identifiers, set.identifiers),
+            shown: self.shown.saturating_sub(set.shown),
+            on: self.on.saturating_sub(set.on),
+            identifiers: self.identifiers.saturating_sub(set.identifiers),
         }
     }
 
@@ -123,11 +92,8 @@ impl Totals {
         ensures { result ≡ totals_in sets }
     {
         let mut totals = Self::none();
-        let mut k = lists::least(sets.count, Sets::KEYS);
-        while 0 < k {
-            k -= 1;
-            let shown = sets.shown[k];
-            totals = totals.with(shown.len, sets.on[k]);
+        for k in (0..sets.count.min(Sets::KEYS)).rev() {
+            totals = totals.with(sets.shown[k].len, sets.on[k]);
         }
         totals
     }
@@ -137,12 +103,6 @@ impl Totals {
         ensures { result ≡ same_totals self (totals_in sets) }
     {
         let sums = Self::added_up(sets);
-        if self.shown != sums.shown {
-            return false;
-        }
-        if self.on != sums.on {
-            return false;
-        }
-        self.identifiers == sums.identifiers
+        self == sums
     }
 }

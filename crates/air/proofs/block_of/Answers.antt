@@ -1,18 +1,17 @@
 -- `air::block_of` meets its contract.
-use native.Mathlib.Omega.{arith}
-use mathlib.Core.Path.{◌≡◌, sym, ◌∙◌}
-use lib.ListN.{length}
-use lib.Seq.{length-take-le}
-use Rattle.out.proofs.Runs.{puts_length}
-use Rattle.air.proofs.Blocks.{piece_few, block_made}
+use borrow.Author.Rules.{rules}
+use Rattle.out.proofs.Pages.{writes_then, opened_puts}
+use Rattle.pieces.proofs.BlockBack.{fig_length}
+use Rattle.air.specs.Parts.{piece_of}
+use Rattle.air.proofs.Blocks.{block_made, block_room}
 use Rattle.air.proofs.block_of.Goals as goal
 
 pub slice_bounds-check_of-end : goal.slice_bounds-check_of-end
 slice_bounds-check_of-end c =
-    let long : length c.put.new.out ≡ 32 = puts_length c.put.ensures ∙ puts_length c.put_fig-end.ensures in
-    sym (length-take-le _ c.put.new.out (omega arith))
+    block_room _ (fig_length c.args.head.key c.args.head.on (piece_of c.args.piece) c.requires.few)
+    (opened_puts c.over-page.ensures.over (writes_then c.put_fig.ensures c.put.ensures)) (search rules)
 
 pub returns : goal.returns
 returns c =
-    block_made _ (piece_few c.args.key c.args.on c.args.part c.args.numbers.now c.requires)
-    c.put_fig-end.ensures c.put.ensures _ c.check_of-check.ensures.0
+    block_made _ (fig_length c.args.head.key c.args.head.on (piece_of c.args.piece) c.requires.few)
+    (opened_puts c.over-page.ensures.over (writes_then c.put_fig.ensures c.put.ensures)) (search rules) c.check_of-check.ensures.0

@@ -8,7 +8,7 @@ use Rattle.air.proofs.count_all.Given as goal
 
 abbrev pub invariant-loop-i : goal.invariant-loop-i
 invariant-loop-i l =
-    (l.i ≤ l.count) × (l.n ≤ 130 * l.i) × (32 * l.n + length (all_blocks (sets_from l.sets l.i (l.count - l.i))) ≡ length (all_blocks (sets_from l.sets 0 l.count)))
-
-abbrev pub decreases-loop-i : goal.decreases-loop-i
-decreases-loop-i l = l.count - l.i
+    record {
+      few : l.n ≤ 130 * l.i;
+      rest : 32 * l.n + length (all_blocks (sets_from l.sets l.i (l.count - l.i))) ≡ length (all_blocks (sets_from l.sets 0 l.count));
+    }

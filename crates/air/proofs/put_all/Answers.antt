@@ -1,32 +1,25 @@
 use native.Mathlib.Omega.{arith}
-use mathlib.Core.Path.{sym, subst}
-use Rattle.pieces.specs.Air.{all_blocks}
+use mathlib.Core.Path.{sym}
 use Rattle.sets.specs.Stored.{EachHolds}
-use Rattle.sets.specs.Shown.{sets_from}
-use Rattle.out.proofs.Runs.{Going, going_start, going_on, going_end}
+use Rattle.out.proofs.Pages.{going_start, going_as, going_on, going_end}
 use Rattle.air.proofs.Output.{blocks_next, blocks_end, blocks_all}
 use Rattle.air.proofs.put_all.Goals as goal
 
 pub loop-i-init : goal.loop-i-init
-loop-i-init c =
-    let a = c.args in
-    subst (Going a.out.now 0 (all_blocks (sets_from a.sets 0 a.count)) a.out.now 0) (sym (blocks_all a.sets a.count)) (going_start _ _ 0 0 (omega arith))
+loop-i-init c = going_as (sym (blocks_all c.args.sets.now c.args.count)) (going_start _ _)
 
-pub put_set-p-requires : goal.put_set-p-requires
+pub put_set-requires : goal.put_set-requires
 unfolding EachHolds
-put_set-p-requires c = c.requires.1 c.loop-i.i (omega arith)
+put_set-requires c = c.requires.1 c.loop-i.i (omega arith)
 
 pub loop-i-preserved : goal.loop-i-preserved
 unfolding EachHolds
 loop-i-preserved c =
     let a = c.args in
     let h = c.loop-i-test.true in
-    going_on (blocks_next a.sets c.loop-i.i a.count (c.requires.1 c.loop-i.i (omega (arith, h, c.requires.0))) h) c.loop-i.invariant c.put_set-p.ensures
-
-pub shape_of-out : goal.shape_of-out
-shape_of-out c = c.loop-i.invariant.long
+    going_on (blocks_next a.sets.now c.loop-i.i a.count (c.requires.1 c.loop-i.i (omega (arith, h, c.requires.0))) h) c.loop-i.invariant c.put_set.ensures
 
 pub returns : goal.returns
 returns c =
     let a = c.args in
-    going_end (blocks_end a.sets c.loop-i.i a.count c.loop-i-test.false) c.loop-i.invariant
+    going_end (blocks_end a.sets.now c.loop-i.i a.count c.loop-i-test.false) c.loop-i.invariant

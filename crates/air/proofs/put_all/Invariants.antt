@@ -2,11 +2,8 @@
 use Prim.Native.Nat.{◌-◌}
 use Rattle.pieces.specs.Air.{all_blocks}
 use Rattle.sets.specs.Shown.{sets_from}
-use Rattle.out.proofs.Runs.{Going}
+use Rattle.out.proofs.Pages.{Going}
 use Rattle.air.proofs.put_all.Given as goal
 
 abbrev pub invariant-loop-i : goal.invariant-loop-i
-invariant-loop-i l = Going l.initial.out 0 (all_blocks (sets_from l.sets 0 l.count)) l.out l.p (all_blocks (sets_from l.sets l.i (l.count - l.i)))
-
-abbrev pub decreases-loop-i : goal.decreases-loop-i
-decreases-loop-i l = l.count - l.i
+invariant-loop-i l = Going l.initial.page (all_blocks (sets_from l.sets 0 l.count)) l.page (all_blocks (sets_from l.sets l.i (l.count - l.i)))

@@ -1,63 +1,32 @@
-use Prim.Native.Nat.{ℕ}
-use native.Mathlib.Omega.{arith}
-use mathlib.Core.Path.{◌≡◌, sym, ap, subst}
-use lib.ListN.{length}
-use borrow.Author.Rules.{rules}
-use Rattle.rules.specs.Collecting.{most_ids}
-use Rattle.pieces.specs.Air.{blocks_of}
-use Rattle.lists.proofs.StoredLaws.{holds_facts}
-use Rattle.out.proofs.Runs.{going_start, going_on, going_end}
-use Rattle.air.specs.Parts.{Fitting}
-use Rattle.air.proofs.Ranges.{left}
-use Rattle.air.proofs.Sets.{Turn, left_none, part_turn, part_fits}
+use mathlib.Core.Path.{◌≡◌, ap, subst}
+use mathlib.Core.List.{◌∷◌}
+use Rattle.pieces.specs.Air.{cut, blocks_of}
+use Rattle.rules.proofs.Basics.{Every}
+use Rattle.sets.specs.Shown.{set_in}
+use Rattle.out.proofs.Pages.{going_start, going_as, going_on, going_end}
+use Rattle.air.specs.Parts.{piece_of, to_come, Fitting}
+use Rattle.air.proofs.Sets.{set_fits}
 use Rattle.air.proofs.put_cut.Goals as goal
 
-pub loop-from-init : goal.loop-from-init
-unfolding left
-loop-from-init c = (omega arith, going_start _ _ _ _ c.least-p.ensures)
+pub loop-piece-init : goal.loop-piece-init
+loop-piece-init c =
+    let h = c.args.head in
+    let all : cut h.key (set_in c.args.list.now).items ≡ to_come c.into_iter-piece-iterator.result = (cc) in
+    record {
+      writes = going_as (ap (blocks_of h.key h.on) all) (going_start _ _);
+      fit = subst (Every (Fitting h.key)) all (set_fits h.key c.args.list.now c.requires);
+    }
 
-pub part_at-part-requires : goal.part_at-part-requires
-part_at-part-requires c =
-    omega (arith, (holds_facts _ _ c.requires).short, c.loop-from-test.true)
-
-pub put_block-p-requires : goal.put_block-p-requires
-put_block-p-requires c =
-    let l = c.args.list in
-    let nl : length l.numbers ≡ most_ids = search rules in
-    let kl : length l.kinds ≡ most_ids = search rules in
-    subst (λ (n : ℕ). Fitting c.args.key n c.part_at-part.result) (sym nl)
-    (part_fits c.args.key l nl kl c.requires c.loop-from.from c.part_at-part.result c.loop-from-test.true c.part_at-part.ensures)
-
-pub loop-from-smaller : goal.loop-from-smaller
-loop-from-smaller c =
-    let l = c.args.list in
-    let nl : length l.numbers ≡ most_ids = search rules in
-    let kl : length l.kinds ≡ most_ids = search rules in
-    let turn : Turn c.args.key l c.loop-from.from c.part_at-part.result =
-    part_turn l nl kl (holds_facts _ _ c.requires).short c.args.key c.loop-from.from c.part_at-part.result c.loop-from-test.true c.part_at-part.ensures in
-    omega (arith, turn.ahead, c.loop-from-test.true)
-
-pub loop-from-preserved : goal.loop-from-preserved
+pub loop-piece-preserved : goal.loop-piece-preserved
 unfolding blocks_of
-loop-from-preserved c =
-    let l = c.args.list in
-    let nl : length l.numbers ≡ most_ids = search rules in
-    let kl : length l.kinds ≡ most_ids = search rules in
-    let turn : Turn c.args.key l c.loop-from.from c.part_at-part.result =
-    part_turn l nl kl (holds_facts _ _ c.requires).short c.args.key c.loop-from.from c.part_at-part.result c.loop-from-test.true c.part_at-part.ensures in
-    (turn.inside, going_on (ap (blocks_of c.args.key c.args.on) turn.next) c.loop-from.invariant.1 c.put_block-p.ensures)
-
-pub shape_of-out : goal.shape_of-out
-shape_of-out c = c.loop-from.invariant.1.long
+loop-piece-preserved c =
+    let h = c.args.head in
+    let turn : to_come c.loop-piece.piece-iterator ≡ piece_of c.in-Some.piece ∷ to_come c.next.new.self = c.in-Some.ensures.steps in
+    record {
+      writes = going_on (ap (blocks_of h.key h.on) turn) c.loop-piece.invariant.writes c.put_block.ensures;
+      fit = (subst (Every (Fitting h.key)) turn c.loop-piece.invariant.fit).1;
+    }
 
 pub returns : goal.returns
 unfolding blocks_of
-returns c =
-    let at = c.loop-from in
-    let l = c.args.list in
-    let nl : length l.numbers ≡ most_ids = search rules in
-    let kl : length l.kinds ≡ most_ids = search rules in
-    going_end
-    (ap (blocks_of c.args.key c.args.on)
-    (left_none l nl kl (holds_facts _ _ c.requires).short c.args.key at.from at.invariant.0 c.loop-from-test.false))
-    at.invariant.1
+returns c = going_end (ap (blocks_of c.args.head.key c.args.head.on) c.in-None.ensures.steps.0) c.loop-piece.invariant.writes

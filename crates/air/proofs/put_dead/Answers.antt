@@ -1,35 +1,28 @@
 -- `air::put_dead` meets its contract.
-use native.Mathlib.Omega.{arith}
-use mathlib.Core.Path.{◌≡◌, sym, ap, ◌∙◌}
+use mathlib.Core.Path.{sym, ap, ◌∙◌}
 use mathlib.Core.List.{append-nil}
-use lib.ListN.{length}
-use borrow.Author.Rules.{rules}
-use Rattle.rules.specs.Collecting.{most_ids}
-use Rattle.pieces.specs.Air.{Piece, blocks_of, block_of, fig_bytes}
+use Rattle.lists.specs.Stored.{listed}
+use Rattle.pieces.specs.Air.{dead_link, blocks_of}
 use Rattle.sets.specs.Shown.{set_in}
-use Rattle.out.proofs.Runs.{puts_none, puts_as}
-use Rattle.air.proofs.Sets.{dead_piece, dead_there, dead_none}
+use Rattle.out.proofs.Pages.{writes_none, writes_as}
+use Rattle.air.proofs.Sets.{dead_there, dead_none}
 use Rattle.air.proofs.put_dead.Goals as goal
-
-pub put_block-requires : goal.put_block-requires
-put_block-requires c =
-    let nl : length c.args.list.numbers ≡ most_ids = search rules in
-    record { ahead = omega arith; inside = omega arith; few = omega arith; kind = c.requires }
 
 pub returns-then-is_dead : goal.returns-then-is_dead
 unfolding blocks_of set_in
 returns-then-is_dead c =
     let a = c.args in
-    puts_as
-    (ap (λ (p : Piece). block_of (fig_bytes a.key a.on p)) (dead_piece a.list.numbers a.kind)
-    ∙ sym (append-nil _)
-    ∙ ap (blocks_of a.key a.on) (sym (dead_there a.kind a.named (set_in a.list).items (sym c.is_dead.ensures ∙ c.if-is_dead.true))))
+    writes_as
+    (sym (append-nil _)
+    ∙ ap (blocks_of a.head.key a.head.on)
+    (sym (dead_there a.kind a.named (listed c.pairs.result) (sym c.is_dead.ensures ∙ c.if-is_dead.true)) ∙ ap (dead_link a.kind a.named) c.pairs.ensures.pairs))
     c.put_block.ensures
 
 pub returns-else-is_dead : goal.returns-else-is_dead
 unfolding blocks_of set_in
 returns-else-is_dead c =
     let a = c.args in
-    puts_as
-    (ap (blocks_of a.key a.on) (sym (dead_none a.kind a.named (set_in a.list).items (sym c.is_dead.ensures ∙ c.if-is_dead.false))))
-    (puts_none _ _ _ c.least.ensures)
+    writes_as
+    (ap (blocks_of a.head.key a.head.on)
+    (sym (dead_none a.kind a.named (listed c.pairs.result) (sym c.is_dead.ensures ∙ c.if-is_dead.false)) ∙ ap (dead_link a.kind a.named) c.pairs.ensures.pairs))
+    (writes_none c.args.page.now)

@@ -1,30 +1,17 @@
-use Prim.Native.Nat.{ℕ}
 use native.Mathlib.Numerals.{add-one}
-use native.Mathlib.Omega.{arith}
-use mathlib.Core.Path.{◌≡◌, ap, ◌∙◌}
-use lib.Seq.{slice, slice-cons, slice_empty}
+use mathlib.Core.Path.{ap}
+use lib.ListN.{drop_of_length-le}
+use lib.Seq.{drop-cons}
 use Rattle.pieces.specs.Air.{all_bytes}
-use Rattle.out.proofs.Runs.{going_start, going_on, going_end}
+use Rattle.out.proofs.Pages.{going_on, going_end}
 use Rattle.air.proofs.put_numbers.Goals as goal
 
-pub loop-i-init : goal.loop-i-init
-loop-i-init c = (omega arith, going_start _ _ _ _ c.least-p.ensures)
-
-pub loop-i-preserved : goal.loop-i-preserved
+pub loop-n-preserved : goal.loop-n-preserved
 unfolding all_bytes
-loop-i-preserved c =
-    let more : slice c.loop-i.i c.args.to c.args.numbers.now ≡ _ =
-    slice-cons c.loop-i.i c.args.to c.args.numbers.now 0 c.loop-i-test.true c.requires.2 in
-    (omega arith, going_on (rw (add-one c.loop-i.i) (ap (all_bytes c.args.width) more)) c.loop-i.invariant.1 c.put_number-p.ensures)
-
-pub shape_of-out : goal.shape_of-out
-shape_of-out c = c.loop-i.invariant.1.long
+loop-n-preserved c =
+    let at = c.loop-n in
+    going_on (rw (add-one at.n-index) (ap (all_bytes c.args.width) (drop-cons c.args.numbers.now at.n-index 0 c.loop-n-test.true))) at.invariant c.put_number.ensures
 
 pub returns : goal.returns
 unfolding all_bytes
-returns c =
-    let at : c.loop-i.i ≡ c.args.to = omega (arith, c.loop-i.invariant.0, c.loop-i-test.false) in
-    going_end
-    (ap (λ (i : ℕ). all_bytes c.args.width (slice i c.args.to c.args.numbers.now)) at
-    ∙ ap (all_bytes c.args.width) (slice_empty c.args.to c.args.numbers.now))
-    c.loop-i.invariant.1
+returns c = going_end (ap (all_bytes c.args.width) (drop_of_length-le c.args.numbers.now c.loop-n-test.false)) c.loop-n.invariant

@@ -1,6 +1,7 @@
 -- `air::write_air` meets its contract.
 use native.Mathlib.Omega.{arith}
 use mathlib.Core.Path.{refl}
+use borrow.Author.Rules.{rules}
 use Rattle.lists.proofs.StoredLaws.{fails}
 use Rattle.sets.proofs.SetsLaws.{stored_facts}
 use Rattle.table.proofs.GivenLaws.{sets_stored}
@@ -19,17 +20,14 @@ count_all-requires c =
 
 pub returns-then-out-count_all : goal.returns-then-out-count_all
 returns-then-out-count_all c =
-    let a = c.args in
-    answer_short a.table (c.meets.ensures.sound c.if-not-meets.false) a.out.now c.count_all.result
-    c.count_all.ensures.0 c.if-out-count_all.true
+    answer_short c.args.table (c.meets.ensures.sound c.if-not-meets.false) c.count_all.result c.count_all.ensures.0 c.args.out.now c.if-out-count_all.true
 
-pub put_all-size-requires : goal.put_all-size-requires
-put_all-size-requires c =
+pub put_all-requires : goal.put_all-requires
+put_all-requires c =
     let f = stored_facts _ (sets_stored _ (c.meets.ensures.sound c.if-not-meets.false)) in
     (omega (arith, f.short), f.shown_hold)
 
 pub returns : goal.returns
 returns c =
-    let a = c.args in
-    answer_done a.table (c.meets.ensures.sound c.if-not-meets.false) a.out.now c.count_all.result
-    c.count_all.ensures.0 _ _ c.if-out-count_all.false c.put_all-size.ensures
+    answer_done c.args.table (c.meets.ensures.sound c.if-not-meets.false) c.count_all.result c.count_all.ensures.0 c.if-out-count_all.false
+    c.over-page.ensures.over c.put_all.ensures c.size.ensures (search rules)

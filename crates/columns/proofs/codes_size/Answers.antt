@@ -28,6 +28,6 @@ pub returns : goal.returns
 returns c =
     let a = c.args in
     let w = a.rows in (
-      ap (λ (k : ℕ). a.n * k) (c.row_size.ensures.0 ∙ ap (λ (k : ℕ). row_size w.csv w.on (number_in w) (2 + 2 * k)) c.width_of.ensures),
+      ap (λ (k : ℕ). a.n * k) (c.row_size.ensures.0 ∙ ap (λ (k : ℕ). row_size w.form.csv w.on (number_in w) (2 + 2 * k)) c.width_of.ensures),
       mul-le-mul {n₁ = a.n} {n₂ = most_ids} {m₂ = 62} c.requires c.row_size.ensures.1,
     )

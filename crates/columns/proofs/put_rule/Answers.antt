@@ -1,17 +1,20 @@
--- `columns::put_rule` meets its contract: nothing, or the dashes and the end of the line.
+-- `columns::put_rule` meets its contract: the dashes and the end of the line, or nothing.
 use Prim.Native.Nat.{ℕ}
 use mathlib.Core.Path.{ap}
 use mathlib.Core.List.{[], ◌∷◌, ◌++◌}
 use lib.ListN.{replicate}
-use Rattle.out.proofs.Runs.{puts_none, puts_as, puts_then}
+use borrow.Author.Tests.{not-true, not-false}
+use Rattle.out.proofs.Pages.{writes_none, writes_as, writes_then}
 use Rattle.columns.specs.Columns.{rule_text}
 use Rattle.columns.proofs.put_rule.Goals as goal
 
-pub returns-then-csv : goal.returns-then-csv
+pub returns-then-not-form : goal.returns-then-not-form
 unfolding rule_text
-returns-then-csv c = puts_as (rw c.if-csv.true) (puts_none _ _ _ c.least.ensures)
+returns-then-not-form c =
+    writes_as
+    (rw (not-true _ c.if-not-form.true) (ap (λ (k : ℕ). replicate k 45 ++ 10 ∷ []) c.line_width.ensures))
+    (writes_then c.put_same.ensures c.put.ensures)
 
-pub returns-else-csv : goal.returns-else-csv
+pub returns-else-not-form : goal.returns-else-not-form
 unfolding rule_text
-returns-else-csv c =
-    puts_as (rw c.if-csv.false (ap (λ (k : ℕ). replicate k 45 ++ 10 ∷ []) c.line_width.ensures)) (puts_then c.put_same-p.ensures c.put.ensures)
+returns-else-not-form c = writes_as (rw (not-false _ c.if-not-form.false)) (writes_none _)

@@ -1,33 +1,22 @@
-use mathlib.Core.Path.{refl, sym, subst}
-use Rattle.out.proofs.Runs.{Going, going_start, going_on, going_as, going_end}
-use Rattle.sets.specs.Shown.{confirmed_sets_in}
-use Rattle.columns.specs.Columns.{sets_text}
+use mathlib.Core.Path.{sym}
+use Rattle.out.proofs.Pages.{going_start, going_on, going_as, going_end}
 use Rattle.columns.proofs.Whole.{text_all, text_skip, text_next, text_end}
 use Rattle.columns.proofs.put_sets.Goals as goal
 use Rattle.columns.proofs.put_sets.Goals.{else-set-ne0, then-set-ne0}
 
 pub loop-k-init : goal.loop-k-init
-loop-k-init c =
-    let a = c.args in
-    subst (λ rest. Going a.out.now a.at (sets_text a.csv a.numbered (confirmed_sets_in a.sets)) a.out.now c.least-p.result rest)
-    (sym (text_all a.csv a.numbered a.sets c.requires))
-    (going_start _ _ _ _ c.least-p.ensures)
+loop-k-init c = going_as (sym (text_all c.args.form c.args.sets.now c.requires)) (going_start _ _)
 
 pub loop-k-preserved : goal.loop-k-preserved
 loop-k-preserved c =
-    let a = c.args in
-    let t = a.sets in
+    let f = c.args.form in
+    let t = c.args.sets.now in
     let at = c.loop-k in
     let inside = c.loop-k-test.true in
     elim c.if-set-ne0.branch [
-      | then-set-ne0 w ↦ going_as w.out-is w.p-is refl (going_on (text_next a.csv a.numbered t at.k t.count inside w.if-set-ne0.true) at.invariant w.put_set-p.ensures)
-      | else-set-ne0 w ↦ going_as w.out-is w.p-is (text_skip a.csv a.numbered t at.k t.count inside w.if-set-ne0.false) at.invariant
+      | then-set-ne0 w ↦ rw w.page-is (going_on (text_next f t at.k t.count w.at.ensures inside w.if-set-ne0.true) at.invariant w.put_set.ensures)
+      | else-set-ne0 w ↦ rw w.page-is (going_as (text_skip f t at.k t.count inside w.if-set-ne0.false) at.invariant)
     ]
 
-pub shape_of-out : goal.shape_of-out
-shape_of-out c = c.loop-k.invariant.long
-
 pub returns : goal.returns
-returns c =
-    let a = c.args in
-    going_end (text_end a.csv a.numbered a.sets c.loop-k.k _ c.loop-k-test.false) c.loop-k.invariant
+returns c = going_end (text_end c.args.form c.args.sets.now c.loop-k.k _ c.loop-k-test.false) c.loop-k.invariant

@@ -1,5 +1,5 @@
 -- `columns::sets_size` meets its contract: what is added up and what is left to add make the whole.
-use Prim.Native.Nat.{◌+◌, ◌-◌, ◌*◌, ◌≤◌}
+use Prim.Native.Nat.{◌+◌, ◌*◌, ◌≤◌}
 use mathlib.Core.Path.{◌≡◌}
 use lib.ListN.{length}
 use Rattle.sets.specs.Shown.{confirmed_sets_in}
@@ -9,7 +9,4 @@ use Rattle.columns.proofs.sets_size.Given as goal
 
 abbrev pub invariant-loop-i : goal.invariant-loop-i
 invariant-loop-i l =
-    (l.size + length (text_from l.csv l.numbered l.sets l.i l.sets.count) ≡ length (sets_text l.csv l.numbered (confirmed_sets_in l.sets))) × (l.size ≤ l.i * 8122) × (l.i ≤ l.sets.count)
-
-abbrev pub decreases-loop-i : goal.decreases-loop-i
-decreases-loop-i l = l.sets.count - l.i
+    (l.size + length (text_from l.form l.sets l.i l.sets.count) ≡ length (sets_text l.form.csv l.form.numbered (confirmed_sets_in l.sets))) × (l.size ≤ l.i * 8122)

@@ -4,4 +4,4 @@ use Rattle.input.proofs.as_sheet.Goals as goal
 
 pub returns : goal.returns
 returns c =
-    record { bytes = c.args.bytes.now; each = λ i. (c.type_inv.bytes i).fits; size = refl; loads = c.load_sheet-loaded.ensures }
+    record { bytes = c.args.bytes.now; each = λ i. (c.type_inv.bytes i).fits; size = refl; loads = c.load_sheet.ensures }

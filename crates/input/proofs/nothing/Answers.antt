@@ -5,4 +5,4 @@ use Rattle.input.proofs.Laws.{reading_nothing}
 use Rattle.input.proofs.nothing.Goals as goal
 
 pub returns : goal.returns
-returns c = record { read = reading_nothing _ c.empty-table.ensures; even = λ _. refl; within = omega arith }
+returns c = record { read = reading_nothing _ c.empty.ensures; even = λ _. refl; within = omega arith }

@@ -7,4 +7,4 @@ use Rattle.input.proofs.read_on.Goals as goal
 pub returns : goal.returns
 unfolding ReadsMore
 returns g c =
-    record { read = (c.with_chunk-received.ensures.reads_more c.requires.reading).0; even = λ e. omega (arith, eqb-true); within = omega arith }
+    record { read = (c.add_chunk.ensures.reads_more c.requires.reading).0; even = λ e. omega (arith, eqb-true); within = omega arith }

@@ -1,12 +1,13 @@
 -- `reading::confirmed_by` meets its contract: at the note of a showing the block's number, at every other the one before.
-use borrow.Author.Rules.{rules}
-use Rattle.reading.specs.Steps.{is_showing, confirmed_by}
+use mathlib.Core.Path.{sym, ◌∙◌}
+use Rattle.reading.specs.Steps.{confirmed_by}
+use Rattle.reading.proofs.SameLaws.{same_showing}
 use Rattle.reading.proofs.confirmed_by.Goals as goal
 
-pub returns-in-ShownAndOpened : goal.returns-in-ShownAndOpened
-unfolding confirmed_by is_showing
-returns-in-ShownAndOpened c = search rules
+pub returns-then-eq : goal.returns-then-eq
+unfolding confirmed_by
+returns-then-eq c = rw (sym (same_showing c.args.note) ∙ sym c.eq.ensures ∙ c.if-eq.true)
 
-pub returns-in_default : goal.returns-in_default
-unfolding confirmed_by is_showing
-returns-in_default c = search rules
+pub returns-else-eq : goal.returns-else-eq
+unfolding confirmed_by
+returns-else-eq c = rw (sym (same_showing c.args.note) ∙ sym c.eq.ensures ∙ c.if-eq.false)

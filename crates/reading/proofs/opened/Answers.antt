@@ -1,14 +1,16 @@
 -- `reading::opened` meets its contract.
-use mathlib.Core.Path.{ap, ◌∙◌}
+use mathlib.Core.Path.{◌≡◌, ap, ◌∙◌}
 use lib.Dec.{eqb}
 use Rattle.lists.specs.declared.IdList.{IdList}
-use Rattle.lists.specs.declared.Grown.{Grown}
+use Rattle.std.specs.Prelude.{unwrap_or}
+use Rattle.lists.specs.Stored.{empty_list}
 use Rattle.lists.specs.Grown.{with_field}
 use Rattle.sets.specs.Stored.{opened_sets}
 use Rattle.reading.proofs.opened.Goals as goal
 
 pub returns : goal.returns
 returns c =
+    let a = c.args in
+    let first : c.with_field.result ≡ with_field empty_list a.body.now a.f = c.with_field.ensures ∙ ap (λ (l : IdList). with_field l a.body.now a.f) c.empty.ensures in
     c.opened_at.ensures
-    ∙ ap (λ (g : Grown). opened_sets c.args.sets c.args.at c.args.key (eqb c.args.f.la 1) g.list)
-    (c.with_field-first.ensures ∙ ap (λ (l : IdList). with_field l c.args.body.now c.args.f) c.empty.ensures)
+    ∙ ap (opened_sets a.sets a.at a.key (eqb a.f.la 1)) (c.unwrap_or-list.ensures ∙ (λ i. unwrap_or (first i) (c.empty-2.ensures i)))

@@ -1,16 +1,11 @@
--- `reading::run_blocks` meets its contract: each turn takes one field of the present block or judges the next block, and what is
--- left to do makes the whole. The turns are those of RunRows.antt.
-use Prim.Native.Nat.{◌+◌, ◌-◌}
-use lib.ListN.{length}
-use Rattle.table.specs.Stored.{table_of}
-use Rattle.reading.specs.Gathered.{sets_of}
-use Rattle.reading.proofs.RunRows.{Kept}
+-- `reading::run_blocks` meets its contract: before each block the desk keeps what the blocks passed leave, and within one what its fields
+-- passed leave. The turns are those of RunRows.antt.
+use Prim.Native.Nat.{◌+◌, ◌*◌}
+use Rattle.reading.proofs.RunRows.{Kept, Between}
 use Rattle.reading.proofs.run_blocks.Given as goal
 
-abbrev pub invariant-loop-i : goal.invariant-loop-i
-invariant-loop-i l =
-    Kept l.bytes (table_of (sets_of l.initial.laid l.initial.on l.initial.confirmed l.initial.sn l.initial.sk l.initial.shown l.initial.dn l.initial.dk l.initial.draft) l.initial.totals l.initial.blocks) l.laid l.totals l.blocks l.on l.confirmed l.sn l.sk l.shown l.dn l.dk l.draft l.reply l.spots l.from l.at l.i
+abbrev pub invariant-loop-b : goal.invariant-loop-b
+invariant-loop-b l = Between l.bytes l.fn.table l.desk l.reply (32 * l.b)
 
-abbrev pub decreases-loop-i : goal.decreases-loop-i
-decreases-loop-i l =
-    (length l.bytes - l.at) + (l.spots.count - l.i)
+abbrev pub invariant-loop-i : goal.invariant-loop-i
+invariant-loop-i l = Kept l.bytes l.fn.table l.desk l.reply l.found (32 * l.b) (32 * l.b + 32) l.i

@@ -1,16 +1,17 @@
 -- `report::put_refusal` meets its contract: its parts one after another.
-use Rattle.out.proofs.Runs.{puts_as, puts_then}
+use mathlib.Core.Path.{sym}
+use Rattle.out.proofs.Pages.{writes_as, writes_then}
 use Rattle.report.specs.Report.{refusal_line}
 use Rattle.report.proofs.put_refusal.Goals as goal
 
 pub returns : goal.returns
 unfolding refusal_line
 returns c =
-    puts_as (rw c.outcome_number-n.ensures)
-    (puts_then
-    (puts_then
-    (puts_then
-    (puts_then (puts_then c.put_bytes-a.ensures c.put_decimal-b.ensures) (puts_then c.put_bytes-c.ensures c.put_decimal-d.ensures))
-    c.put_where-e.ensures)
-    (puts_then c.put_bytes-f.ensures c.put_words-g.ensures))
+    writes_as (rw (c.from.ensures, c.words.ensures))
+    (writes_then
+    (writes_then
+    (writes_then
+    (writes_then (writes_then c.put_bytes.ensures c.put_decimal.ensures) (writes_then c.put_bytes-2.ensures c.put_decimal-2.ensures))
+    c.put_where.ensures)
+    (writes_then c.put_bytes-3.ensures c.put_bytes-4.ensures))
     c.put.ensures)

@@ -1,14 +1,22 @@
 -- `report::put_where` meets its contract: nothing where the check fails, and else some words and the place.
-use borrow.Author.Tests.{eq-eqb, ne_eqb}
-use Rattle.out.proofs.Runs.{puts_none, puts_as, puts_then}
+use mathlib.Core.Path.{◌≡◌, sym, ◌∙◌}
+use mathlib.Core.Bool.{true, false}
+use lib.Dec.{eqb}
+use Rattle.rules.specs.Outcomes.{number_of}
+use borrow.Author.Tests.{not-true, not-false}
+use Rattle.out.proofs.Pages.{writes_none, writes_as, writes_then}
 use Rattle.report.specs.Report.{place_text}
+use Rattle.report.proofs.Called.{check_number}
 use Rattle.report.proofs.put_where.Goals as goal
 
-pub returns-then-n-eq2 : goal.returns-then-n-eq2
+pub returns-then-ne : goal.returns-then-ne
 unfolding place_text
-returns-then-n-eq2 c = puts_as (rw (eq-eqb _ _ c.if-n-eq2.true)) (puts_none _ _ _ c.least.ensures)
+returns-then-ne c =
+    let told : eqb (number_of c.args.outcome) 2 ≡ false = check_number c.args.outcome ∙ not-true _ (sym c.ne.ensures ∙ c.if-ne.true) in
+    writes_as (rw told) (writes_then c.put_bytes.ensures c.put_decimal.ensures)
 
-pub returns : goal.returns
+pub returns-else-ne : goal.returns-else-ne
 unfolding place_text
-returns c =
-    puts_as (rw (ne_eqb _ _ c.if-n-eq2.false)) (puts_then c.put_bytes-p.ensures c.put_decimal.ensures)
+returns-else-ne c =
+    let none : eqb (number_of c.args.outcome) 2 ≡ true = check_number c.args.outcome ∙ not-false _ (sym c.ne.ensures ∙ c.if-ne.false) in
+    writes_as (rw none) (writes_none _)

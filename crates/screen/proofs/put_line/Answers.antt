@@ -1,13 +1,13 @@
 -- `screen::put_line` meets its contract: its parts one after another.
-use Rattle.out.proofs.Runs.{puts_then}
+use Rattle.out.proofs.Pages.{writes_then}
 use Rattle.screen.specs.Screen.{line_of}
 use Rattle.screen.proofs.put_line.Goals as goal
 
 pub returns : goal.returns
 unfolding line_of
 returns c =
-    puts_then
-    (puts_then
-    (puts_then (puts_then c.put_bytes-a.ensures c.put_decimal-b.ensures) (puts_then c.put_bytes-c.ensures c.put_decimal-d.ensures))
-    (puts_then c.put_bytes-e.ensures c.put_decimal-f.ensures))
+    writes_then
+    (writes_then
+    (writes_then (writes_then c.put_bytes.ensures c.put_decimal.ensures) (writes_then c.put_bytes-2.ensures c.put_decimal-2.ensures))
+    (writes_then c.put_bytes-3.ensures c.put_decimal-3.ensures))
     c.put.ensures

@@ -7,8 +7,9 @@ use Rattle.table.specs.declared.Table.{Table}
 use Rattle.table.specs.Stored.{store_table}
 use Rattle.table.proofs.GivenLaws.{given_wrong, given_right}
 use Rattle.out.specs.Answer.{written_as}
-use Rattle.out.proofs.Runs.{puts_as}
-use Rattle.out.proofs.Answers.{written_short, written_done}
+use borrow.Author.Rules.{rules}
+use Rattle.out.proofs.Pages.{writes_as}
+use Rattle.out.proofs.Answers.{written_short, page_done}
 use Rattle.screen.specs.Screen.{line_of, totals_text}
 use Rattle.screen.proofs.write_totals.Goals as goal
 
@@ -29,4 +30,9 @@ returns-then-out-line_size c =
 pub returns : goal.returns
 returns c =
     given_right c.meets.ensures c.if-not-meets.false (λ d m e.
-    written_done (omega (arith, c.if-out-line_size.false, c.line_size.ensures.0, ap length (line_is _ d e))) (puts_as (line_is _ d e) c.put_line.ensures))
+    page_done
+    c.over-page.ensures.over
+    (writes_as (line_is _ d e) c.put_line.ensures)
+    c.size.ensures
+    (search rules)
+    (omega (arith, c.if-out-line_size.false, c.line_size.ensures.0, ap length (line_is _ d e))))

@@ -1,18 +1,17 @@
-use mathlib.Core.Path.{refl, sym, ◌∙◌}
+use mathlib.Core.Path.{sym, ◌∙◌}
 use Rattle.sets.proofs.Loops.{keys_next, keys_not_after, keys_not, keys_end}
 use Rattle.sets.proofs.keys_meet.Goals as goal
-
-pub loop-i-init : goal.loop-i-init
-loop-i-init c = (c.least-end.ensures, refl)
+use Rattle.sets.proofs.keys_meet.Goals.{then-key-last-via-then-key-last, then-key-last-via-else-key-last+then-not-is_key}
 
 pub returns-then-key-last : goal.returns-then-key-last
-returns-then-key-last c = keys_not_after _ c.args.count _ _ _ c.loop-i.invariant.0 c.loop-i-test.true c.if-key-last.true c.loop-i.invariant.1
+returns-then-key-last c =
+    elim c.then-key-last.branch [
+      | then-key-last-via-then-key-last w ↦ keys_not_after _ _ _ c.loop-key-test.true w.if-key-last.true c.loop-key.invariant
+      | then-key-last-via-else-key-last+then-not-is_key w ↦ keys_not _ _ _ c.loop-key-test.true w.if-key-last.false (sym w.is_key.ensures ∙ w.if-not-is_key.true) c.loop-key.invariant
+    ]
 
-pub returns-then-not-is_key : goal.returns-then-not-is_key
-returns-then-not-is_key c = keys_not _ c.args.count _ _ _ c.loop-i.invariant.0 c.loop-i-test.true c.if-key-last.false (sym c.is_key.ensures ∙ c.if-not-is_key.true) c.loop-i.invariant.1
-
-pub loop-i-preserved : goal.loop-i-preserved
-loop-i-preserved c = (c.loop-i.invariant.0, keys_next _ c.args.count _ _ _ c.loop-i.invariant.0 c.loop-i-test.true c.if-key-last.false (sym c.is_key.ensures ∙ c.if-not-is_key.false) c.loop-i.invariant.1)
+pub loop-key-preserved : goal.loop-key-preserved
+loop-key-preserved c = keys_next _ _ _ c.loop-key-test.true c.if-key-last.false (sym c.is_key.ensures ∙ c.if-not-is_key.false) c.loop-key.invariant
 
 pub returns : goal.returns
-returns c = keys_end _ c.args.count _ _ _ c.loop-i.invariant.0 c.loop-i-test.false c.loop-i.invariant.1
+returns c = keys_end _ _ _ c.loop-key-test.false c.loop-key.invariant

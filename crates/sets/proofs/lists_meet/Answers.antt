@@ -1,20 +1,16 @@
-use native.Mathlib.Omega.{arith}
-use mathlib.Core.Path.{refl}
-use borrow.Author.Count.{below_more}
-use Rattle.lists.proofs.StoredLaws.{refuted, passed, fails}
+-- `sets::lists_meet` meets its contract: the test is that of each key and its list.
+use Rattle.std.proofs.Common.{rules}
+use borrow.Author.Tests.{tests}
+use Rattle.std.proofs.lemmas.Iterator.{YieldsList-from_slice, YieldsList-from_zip, cases_from_all}
+use Rattle.lists.specs.Stored.{Holds}
 use Rattle.sets.specs.Stored.{EachHolds}
+use Rattle.sets.proofs.Loops.{tested_pairs}
 use Rattle.sets.proofs.lists_meet.Goals as goal
-
-pub loop-i-init : goal.loop-i-init
-loop-i-init c = (omega arith, λ k h. absurd (omega arith))
-
-pub returns-then-not-meets : goal.returns-then-not-meets
-unfolding EachHolds
-returns-then-not-meets c = refuted _ (λ h. fails refl c.if-not-meets.true (c.meets.ensures.complete (h _ c.loop-i-test.true)))
-
-pub loop-i-preserved : goal.loop-i-preserved
-loop-i-preserved c = (omega arith, below_more _ _ c.loop-i.invariant.1 (c.meets.ensures.sound c.if-not-meets.false))
 
 pub returns : goal.returns
 unfolding EachHolds
-returns c = passed _ (λ i h. c.loop-i.invariant.1 i (omega arith))
+returns c =
+    tested_pairs Holds _ _ (search rules) (search rules)
+    (cases_from_all c.all.new.self _ _ (λ p. Holds p.0 p.1) (λ p. Holds p.0 p.1 → ⊥) c.all.ensures.ran
+    (YieldsList-from_zip (YieldsList-from_slice c.args.keys.now cc) (YieldsList-from_slice c.args.lists.now cc))
+    (λ x q k. search (rules, tests)) (λ x q k. search (rules, tests)))

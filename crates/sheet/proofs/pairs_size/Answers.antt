@@ -3,7 +3,7 @@ use native.Mathlib.Omega.{arith}
 use mathlib.Core.Path.{◌≡◌, ap}
 use lib.ListN.{length, drop}
 use Rattle.rules.specs.Collecting.{most_ids}
-use Rattle.layout.specs.Sheet.{sheet_pairs}
+use Rattle.layout.specs.Sheet.{sheet_number, sheet_pairs}
 use Rattle.sheet.proofs.Writes.{pairs_of, pairs_size, pairs_end, size_here}
 use borrow.Author.Rules.{rules}
 use Rattle.sheet.proofs.pairs_size.Goals as goal
@@ -17,7 +17,7 @@ turn c =
     let kinds_long : length c.args.list.kinds ≡ most_ids = search rules in
     let numbers_long : length c.args.list.numbers ≡ most_ids = search rules in
     let h = size_here c.args.list kinds_long numbers_long c.requires c.loop-i.i c.loop-i-test.true in
-    (omega (arith, c.loop-i.invariant, c.number_size.ensures, c.number_size-in-loop-i.ensures), pairs_size c.args.list kinds_long numbers_long c.requires)
+    (omega (arith, c.loop-i.invariant, c.number_size.ensures, c.number_size-in-loop-i.ensures, ap (λ n. length (sheet_number n)) c.from.ensures), pairs_size c.args.list kinds_long numbers_long c.requires)
 
 pub overflow_add-size : goal.overflow_add-size
 overflow_add-size c = omega (arith, turn c)

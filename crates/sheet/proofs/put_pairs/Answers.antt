@@ -1,24 +1,22 @@
-use mathlib.Core.Path.{◌≡◌, refl}
+use mathlib.Core.Path.{◌≡◌, refl, ap}
 use lib.ListN.{length}
 use Rattle.rules.specs.Collecting.{most_ids}
-use Rattle.out.proofs.Runs.{going_start, going_on, going_end}
+use Rattle.layout.specs.Sheet.{sheet_number}
+use Rattle.out.proofs.Pages.{writes_as, going_start, going_on, going_end}
 use Rattle.sheet.proofs.Writes.{pairs_here, pairs_end}
 use borrow.Author.Rules.{rules}
 use Rattle.sheet.proofs.put_pairs.Goals as goal
 
 pub loop-i-init : goal.loop-i-init
-loop-i-init c = going_start _ _ _ _ c.least-p.ensures
+loop-i-init c = going_start _ _
 
 pub loop-i-preserved : goal.loop-i-preserved
 loop-i-preserved c =
     let kinds_long : length c.args.list.kinds ≡ most_ids = search rules in
     let numbers_long : length c.args.list.numbers ≡ most_ids = search rules in
     going_on refl
-    (going_on (pairs_here c.args.list kinds_long numbers_long c.requires _ c.loop-i-test.true) c.loop-i.invariant c.put_number-p.ensures)
-    c.put_number-p-in-loop-i.ensures
-
-pub shape_of-out : goal.shape_of-out
-shape_of-out c = c.loop-i.invariant.long
+    (going_on (pairs_here c.args.list kinds_long numbers_long c.requires _ c.loop-i-test.true) c.loop-i.invariant (writes_as (ap sheet_number c.from.ensures) c.put_number.ensures))
+    c.put_number-in-loop-i.ensures
 
 pub returns : goal.returns
 returns c =

@@ -1,9 +1,8 @@
 use native.Mathlib.Omega.{arith}
-use mathlib.Core.Path.{refl, sym, ap, subst}
+use mathlib.Core.Path.{sym, ap}
 use Rattle.layout.specs.Sheet.{sheet_sets}
-use Rattle.sets.specs.Shown.{sets_in}
 use Rattle.sets.proofs.ShownLaws.{sets_skip, sets_end, sets_all}
-use Rattle.out.proofs.Runs.{Going, going_start, going_on, going_as, going_end}
+use Rattle.out.proofs.Pages.{going_start, going_on, going_as, going_end}
 use Rattle.sheet.proofs.Writes.{sets_here, list_short, count_short}
 use Rattle.sheet.proofs.put_sets.Goals as goal
 use Rattle.sheet.proofs.put_sets.Goals.{else-list-ne0, then-list-ne0}
@@ -11,9 +10,7 @@ use Rattle.sheet.proofs.put_sets.Goals.{else-list-ne0, then-list-ne0}
 pub loop-i-init : goal.loop-i-init
 loop-i-init c =
     let a = c.args in
-    subst (λ rest. Going a.out.now a.at (sheet_sets (sets_in a.sets)) a.out.now c.least-p.result rest)
-    (sym (ap sheet_sets (sets_all a.sets {n = a.sets.count} (omega (arith, count_short _ c.requires)))))
-    (going_start _ _ _ _ c.least-p.ensures)
+    going_as (sym (ap sheet_sets (sets_all a.sets {n = a.sets.count} (omega (arith, count_short _ c.requires))))) (going_start _ _)
 
 pub offset_bounds-sets-i : goal.offset_bounds-sets-i
 offset_bounds-sets-i c = omega (arith, count_short _ c.requires)
@@ -21,17 +18,8 @@ offset_bounds-sets-i c = omega (arith, count_short _ c.requires)
 pub bounds-sets-i : goal.bounds-sets-i
 bounds-sets-i c = omega (arith, count_short _ c.requires)
 
-pub offset_bounds-sets-i-then-list-ne0 : goal.offset_bounds-sets-i-then-list-ne0
-offset_bounds-sets-i-then-list-ne0 c = omega (arith, count_short _ c.requires)
-
-pub bounds-sets-i-then-list-ne0 : goal.bounds-sets-i-then-list-ne0
-bounds-sets-i-then-list-ne0 c = omega (arith, count_short _ c.requires)
-
-pub bounds-sets-i-then-list-ne0-2 : goal.bounds-sets-i-then-list-ne0-2
-bounds-sets-i-then-list-ne0-2 c = omega (arith, count_short _ c.requires)
-
-pub put_set-p-requires : goal.put_set-p-requires
-put_set-p-requires c = list_short c.args.sets _ c.requires c.loop-i-test.true
+pub put_set-requires : goal.put_set-requires
+put_set-requires c = list_short c.args.sets _ c.requires c.loop-i-test.true
 
 pub loop-i-preserved : goal.loop-i-preserved
 loop-i-preserved c =
@@ -39,12 +27,9 @@ loop-i-preserved c =
     let at = c.loop-i in
     let h = c.loop-i-test.true in
     elim c.if-list-ne0.branch [
-      | then-list-ne0 w ↦ going_as w.out-is w.p-is refl (going_on (sets_here t at.i t.count h w.if-list-ne0.true) at.invariant w.put_set-p.ensures)
-      | else-list-ne0 w ↦ going_as w.out-is w.p-is (ap sheet_sets (sets_skip t at.i t.count h w.if-list-ne0.false)) at.invariant
+      | then-list-ne0 w ↦ rw w.page-is (going_on (sets_here t at.i t.count h w.if-list-ne0.true) at.invariant w.put_set.ensures)
+      | else-list-ne0 w ↦ rw w.page-is (going_as (ap sheet_sets (sets_skip t at.i t.count h w.if-list-ne0.false)) at.invariant)
     ]
-
-pub shape_of-out : goal.shape_of-out
-shape_of-out c = c.loop-i.invariant.long
 
 pub returns : goal.returns
 unfolding sheet_sets

@@ -1,11 +1,11 @@
 -- `sheet::set_size` meets its contract: its numbers and its identifiers, one after another.
 use native.Mathlib.Omega.{arith}
-use mathlib.Core.Path.{◌≡◌, ap}
+use mathlib.Core.Path.{◌≡◌, ap, ◌∙◌}
 use lib.ListN.{length}
 use Rattle.rules.specs.Collecting.{most_ids}
 use Rattle.layout.specs.Sheet.{sheet_number}
 use Rattle.sheet.proofs.Groups.{number_short}
-use Rattle.sheet.proofs.Writes.{pairs_size, size_set}
+use Rattle.sheet.proofs.Writes.{flag_bit, pairs_size, size_set}
 use borrow.Author.Rules.{rules}
 use Rattle.sheet.proofs.set_size.Goals as goal
 
@@ -37,5 +37,6 @@ returns c =
       c.number_size-count.ensures,
       c.number_size-named.ensures,
       c.number_size-state.ensures,
-      ap (λ n. length (sheet_number n)) c.bit_of.ensures,
+      ap (λ n. length (sheet_number n)) (c.from.ensures ∙ flag_bit c.args.on),
+      ap (λ n. length (sheet_number n)) c.from-2.ensures,
     )

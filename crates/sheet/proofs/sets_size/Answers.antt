@@ -17,15 +17,6 @@ offset_bounds-sets-i c = omega (arith, count_short _ c.requires)
 pub bounds-sets-i : goal.bounds-sets-i
 bounds-sets-i c = omega (arith, count_short _ c.requires)
 
-pub offset_bounds-sets-i-then-list-ne0 : goal.offset_bounds-sets-i-then-list-ne0
-offset_bounds-sets-i-then-list-ne0 c = omega (arith, count_short _ c.requires)
-
-pub bounds-sets-i-then-list-ne0 : goal.bounds-sets-i-then-list-ne0
-bounds-sets-i-then-list-ne0 c = omega (arith, count_short _ c.requires)
-
-pub bounds-sets-i-then-list-ne0-2 : goal.bounds-sets-i-then-list-ne0-2
-bounds-sets-i-then-list-ne0-2 c = omega (arith, count_short _ c.requires)
-
 pub set_size-size-requires : goal.set_size-size-requires
 set_size-size-requires c = list_short c.args.sets _ c.requires c.loop-i-test.true
 

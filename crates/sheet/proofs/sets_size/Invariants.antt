@@ -7,7 +7,4 @@ use Rattle.sets.specs.Shown.{sets_from, sets_in}
 use Rattle.sheet.proofs.sets_size.Given as goal
 
 abbrev pub invariant-loop-i : goal.invariant-loop-i
-invariant-loop-i l = l.size + length (sheet_sets (sets_from l.sets l.i (l.count - l.i))) ≡ length (sheet_sets (sets_in l.sets))
-
-abbrev pub decreases-loop-i : goal.decreases-loop-i
-decreases-loop-i l = l.count - l.i
+invariant-loop-i l = l.size + length (sheet_sets (sets_from l.sets l.i (l.sets.count - l.i))) ≡ length (sheet_sets (sets_in l.sets))

@@ -4,9 +4,10 @@ use mathlib.Core.Path.{refl}
 use Rattle.table.proofs.GivenLaws.{sets_are, sets_stored, given_wrong, given_right}
 use Rattle.sets.proofs.ShownLaws.{sets_few}
 use Rattle.out.specs.Answer.{written_as}
-use Rattle.out.proofs.Answers.{written_short, written_done}
+use Rattle.out.proofs.Answers.{written_short, page_done}
 use Rattle.sheet.proofs.Groups.{number_short}
-use Rattle.sheet.proofs.Writes.{sets_short, size_sheet, puts_sheet}
+use Rattle.sheet.proofs.Writes.{sets_short, size_sheet, writes_sheet}
+use borrow.Author.Rules.{rules}
 use Rattle.sheet.proofs.write_sheet.Goals as goal
 
 pub returns-then-not-meets : goal.returns-then-not-meets
@@ -34,11 +35,15 @@ returns-then-out-size c =
     given_right c.meets.ensures c.if-not-meets.false (λ d m e.
     written_short _ _ (omega (arith, c.if-out-size.true, size_sheet _ d m (sets_are _ d m e) c.shown_count-count.ensures c.number_size.ensures c.sets_size.ensures)))
 
-pub put_sets-end-requires : goal.put_sets-end-requires
-put_sets-end-requires c = sets_stored _ (c.meets.ensures.sound c.if-not-meets.false)
+pub put_sets-requires : goal.put_sets-requires
+put_sets-requires c = sets_stored _ (c.meets.ensures.sound c.if-not-meets.false)
 
 pub returns : goal.returns
 returns c =
     given_right c.meets.ensures c.if-not-meets.false (λ d m e.
-    written_done (omega (arith, c.if-out-size.false, size_sheet _ d m (sets_are _ d m e) c.shown_count-count.ensures c.number_size.ensures c.sets_size.ensures))
-    (puts_sheet _ d m (sets_are _ d m e) c.shown_count-count.ensures c.put_number-p.ensures c.put_sets-end.ensures))
+    page_done
+    c.over-page.ensures.over
+    (writes_sheet _ d m (sets_are _ d m e) c.shown_count-count.ensures c.put_number.ensures c.put_sets.ensures)
+    c.size.ensures
+    (search rules)
+    (omega (arith, c.if-out-size.false, size_sheet _ d m (sets_are _ d m e) c.shown_count-count.ensures c.number_size.ensures c.sets_size.ensures)))

@@ -1,27 +1,18 @@
 -- `table::forget_key` meets its contract: the key stands at its place or nowhere, and shutting its place forgets it.
-use native.Mathlib.Omega.{arith}
 use mathlib.Core.Path.{refl, sym, ◌∙◌}
-use Rattle.sets.proofs.PlaceLaws.{stands, stands_not}
-use Rattle.table.proofs.GivenLaws.{sets_are, given_wrong, given_right, stands_short, forgets_missing, forgets_held}
+use Rattle.table.proofs.GivenLaws.{given_wrong, given_right, tested_short, held_some, held_none, forgets_missing, forgets_held}
 use Rattle.table.proofs.forget_key.Goals as goal
 
 pub returns-then-not-meets : goal.returns-then-not-meets
 returns-then-not-meets c = given_wrong c.meets.ensures c.if-not-meets.true refl
 
-pub returns-then-not-stands_at : goal.returns-then-not-stands_at
-returns-then-not-stands_at c = given_right c.meets.ensures c.if-not-meets.false (λ d m e.
-    forgets_missing _ d m e _ (stands_not _ d.sets (sets_are _ d m e) _ _ c.place_of-at.ensures (sym c.stands_at.ensures ∙ c.if-not-stands_at.true)))
+pub held_at-requires : goal.held_at-requires
+held_at-requires c = tested_short _ c.meets.ensures c.if-not-meets.false
 
-pub offset_bounds-sets-at : goal.offset_bounds-sets-at
-offset_bounds-sets-at c = let w = stands_short c.args.table c.meets.ensures c.if-not-meets.false _ _ (sym c.stands_at.ensures ∙ c.if-not-stands_at.false) in omega arith
-
-pub bounds-sets-at : goal.bounds-sets-at
-bounds-sets-at c = stands_short c.args.table c.meets.ensures c.if-not-meets.false _ _ (sym c.stands_at.ensures ∙ c.if-not-stands_at.false)
-
-pub bounds-sets-at-2 : goal.bounds-sets-at-2
-bounds-sets-at-2 c = stands_short c.args.table c.meets.ensures c.if-not-meets.false _ _ (sym c.stands_at.ensures ∙ c.if-not-stands_at.false)
+pub returns-in_default : goal.returns-in_default
+returns-in_default c = given_right c.meets.ensures c.if-not-meets.false (λ d m e. forgets_missing _ d m e _ (held_none _ d m e _ (sym c.held_at.ensures.held ∙ c.in_default.is)))
 
 pub returns : goal.returns
 returns c = given_right c.meets.ensures c.if-not-meets.false (λ d m e.
-    forgets_held _ d m e _ _ c.place_of-at.ensures (stands _ d.sets (sets_are _ d m e) _ _ c.place_of-at.ensures (sym c.stands_at.ensures ∙ c.if-not-stands_at.false))
-    _ c.shut_at-left.ensures _ c.without-rest.ensures _ c.of.ensures)
+    let h = held_some _ d m e _ _ (sym c.held_at.ensures.held ∙ c.in-Some.is) in
+    forgets_held _ d m e _ _ h.0 h.1 _ c.shut_at-left.ensures _ c.without-rest.ensures _ c.of.ensures)

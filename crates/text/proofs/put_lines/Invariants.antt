@@ -1,13 +1,9 @@
 -- `text::put_lines` meets its contract: the lines of the sets from the present entry on are what is left to write.
-use Prim.Native.Nat.{◌-◌}
-use Rattle.out.proofs.Runs.{Going}
+use Rattle.out.proofs.Pages.{Going}
 use Rattle.sets.specs.Shown.{confirmed_sets_in}
 use Rattle.text.specs.Lines.{lines_in}
 use Rattle.text.proofs.SetLaws.{lines_from}
 use Rattle.text.proofs.put_lines.Given as goal
 
 abbrev pub invariant-loop-k : goal.invariant-loop-k
-invariant-loop-k l = Going l.initial.out l.at (lines_in l.numbered (confirmed_sets_in l.sets)) l.out l.p (lines_from l.numbered l.sets l.k l.sets.count)
-
-abbrev pub decreases-loop-k : goal.decreases-loop-k
-decreases-loop-k l = l.sets.count - l.k
+invariant-loop-k l = Going l.initial.page (lines_in l.numbered (confirmed_sets_in l.sets)) l.page (lines_from l.numbered l.sets l.k l.sets.count)

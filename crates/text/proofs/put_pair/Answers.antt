@@ -3,7 +3,7 @@ use native.Mathlib.Omega.{arith}
 use Rattle.rules.specs.Field.{pair}
 use Rattle.text.specs.Listing.{pair_text}
 use Rattle.rules.proofs.TableRules.{width_most}
-use Rattle.out.proofs.Runs.{puts_as, puts_then}
+use Rattle.out.proofs.Pages.{writes_as, writes_then}
 use Rattle.text.proofs.put_pair.Goals as goal
 
 pub overflow_mul-width_of : goal.overflow_mul-width_of
@@ -12,6 +12,6 @@ overflow_mul-width_of c = record { fits = omega (arith, c.width_of.ensures, widt
 pub returns : goal.returns
 unfolding pair_text pair
 returns c =
-    puts_as
+    writes_as
     (rw (c.letter_of.ensures, c.width_of.ensures))
-    (puts_then (puts_then c.put-p.ensures c.put-q.ensures) c.put_hex.ensures)
+    (writes_then (writes_then c.put.ensures c.put-2.ensures) c.put_hex.ensures)

@@ -1,32 +1,31 @@
-use native.Mathlib.Omega.{arith}
-use mathlib.Core.Path.{ap}
+use Prim.Native.Nat.{ℕ}
+use mathlib.Core.Path.{◌≡◌, sym, ap, ap₂, ◌∙◌}
+use mathlib.Core.Logic.{◌⊎◌, inl, inr}
+use mathlib.Core.List.{List}
+use lib.ListN.{length}
 use Rattle.rules.specs.Collecting.{key_width}
+use Rattle.lists.specs.Stored.{paired}
 use Rattle.text.specs.Listing.{pairs_text}
-use Rattle.out.proofs.Runs.{going_start, going_on, going_end}
-use Rattle.lists.proofs.KindLaws.{pairs_here, pairs_end}
+use Rattle.text.proofs.Texts.{paired_next, paired_end}
+use Rattle.out.proofs.Pages.{going_start, going_on, going_as, going_end}
 use Rattle.text.proofs.put_pairs.Goals as goal
 
-pub loop-i-init : goal.loop-i-init
-loop-i-init c = (omega (arith, c.least-end.ensures, c.least.ensures), going_start _ _ _ _ c.least-p.ensures)
+pub loop-kind-init : goal.loop-kind-init
+loop-kind-init c =
+    let whole = c.into_iter-kind-iterator.ensures.into_iter_gives in
+    let kinds = ap (λ it. it.a.rest.now) whole ∙ ap (λ it. it.rest.now) c.zip-kind-items.ensures.first ∙ c.iter.ensures.rest in
+    let numbers = ap (λ it. it.b.rest.now) whole ∙ c.zip-kind-items.ensures.second.0 in
+    going_as (sym (ap₂ (λ (ks ns : List ℕ). pairs_text (key_width c.args.key) (paired ks ns)) kinds numbers)) (going_start _ _)
 
-pub loop-i-preserved : goal.loop-i-preserved
+pub loop-kind-preserved : goal.loop-kind-preserved
 unfolding pairs_text
-loop-i-preserved c =
-    let a = c.args in
-    let at = c.loop-i in (
-      at.invariant.0,
-      going_on
-          (ap (pairs_text (key_width a.key)) (pairs_here _ _ a.len at.i at.invariant.0 c.loop-i-test.true))
-          at.invariant.1
-          c.put_pair-p.ensures,
-    )
-
-pub shape_of-out : goal.shape_of-out
-shape_of-out c = c.loop-i.invariant.1.long
+loop-kind-preserved c =
+    let steps = c.in-Some.ensures.steps in
+    going_on (ap (pairs_text (key_width c.args.key)) (paired_next steps.0 steps.1)) c.loop-kind.invariant c.put_pair.ensures
 
 pub returns : goal.returns
 unfolding pairs_text
 returns c =
-    let a = c.args in
-    let at = c.loop-i in
-    going_end (ap (pairs_text (key_width a.key)) (pairs_end _ _ a.len at.i at.invariant.0 c.loop-i-test.false)) at.invariant.1
+    let at = c.loop-kind.kind-iterator in
+    let none : (length at.a.rest.now ≡ 0) ⊎ (length at.b.rest.now ≡ 0) = elim c.in-None.ensures.steps [ inl h ↦ inl h.1.0 | inr h ↦ inr h.1.0 ] in
+    going_end (ap (pairs_text (key_width c.args.key)) (paired_end at.a.rest.now at.b.rest.now none)) c.loop-kind.invariant

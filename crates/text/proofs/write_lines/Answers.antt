@@ -2,10 +2,11 @@
 -- follow each other.
 use native.Mathlib.Omega.{arith}
 use mathlib.Core.Path.{refl}
+use borrow.Author.Rules.{rules}
 use Rattle.table.proofs.GivenLaws.{given_wrong, given_right, tested_short}
 use Rattle.out.specs.Answer.{written_as}
-use Rattle.out.proofs.Runs.{puts_as, puts_then}
-use Rattle.out.proofs.Answers.{written_short, written_done}
+use Rattle.out.proofs.Pages.{writes_as, writes_then}
+use Rattle.out.proofs.Answers.{written_short, page_done}
 use Rattle.text.proofs.SetLaws.{listed_of, listed_size}
 use Rattle.text.proofs.write_lines.Goals as goal
 
@@ -19,15 +20,19 @@ lines_size-requires c = tested_short c.args.table c.meets.ensures c.if-not-meets
 -- of a stored table the parts make the listing, and the sizes that are added up its size
 pub returns-then-out-size : goal.returns-then-out-size
 returns-then-out-size c = given_right c.meets.ensures c.if-not-meets.false (λ d m e.
-    let text = listed_of c.args.numbered c.args.table d m e c.args.over _ c.shown_count-count.ensures in
     let size = listed_size c.args.numbered c.args.table d m e c.args.over _ c.shown_count-count.ensures c.first_size.ensures.0 c.lines_size.ensures.0 c.tail_size.ensures.0 in
     written_short _ _ (omega (arith, c.if-out-size.true, size)))
 
-pub put_lines-q-requires : goal.put_lines-q-requires
-put_lines-q-requires c = tested_short c.args.table c.meets.ensures c.if-not-meets.false
+pub put_lines-requires : goal.put_lines-requires
+put_lines-requires c = tested_short c.args.table c.meets.ensures c.if-not-meets.false
 
 pub returns : goal.returns
 returns c = given_right c.meets.ensures c.if-not-meets.false (λ d m e.
     let text = listed_of c.args.numbered c.args.table d m e c.args.over _ c.shown_count-count.ensures in
     let size = listed_size c.args.numbered c.args.table d m e c.args.over _ c.shown_count-count.ensures c.first_size.ensures.0 c.lines_size.ensures.0 c.tail_size.ensures.0 in
-    written_done (omega (arith, c.if-out-size.false, size)) (puts_as text (puts_then (puts_then c.put_first-p.ensures c.put_lines-q.ensures) c.put_tail-end.ensures)))
+    page_done
+    c.over-page.ensures.over
+    (writes_as text (writes_then (writes_then c.put_first.ensures c.put_lines.ensures) c.put_tail.ensures))
+    c.size.ensures
+    (search rules)
+    (omega (arith, c.if-out-size.false, size)))

@@ -1,14 +1,24 @@
--- `totals::is_alike` meets its contract.
-use mathlib.Core.Path.{refl, ap₂}
-use borrow.Author.Tests.{eq-eqb, ne_eqb}
+-- `totals::is_alike` meets its contract: two flags are one where their numbers are.
+use Rattle.std.proofs.Common.{rules}
+use mathlib.Core.Path.{◌≡◌, refl}
+use mathlib.Core.Bool.{Bool, true, false, beq}
 use lib.Dec.{eqb}
+use borrow.Author.Tests.{tests}
+use Rattle.rules.specs.Block.{bit}
 use Rattle.totals.specs.Kept.{alike}
 use Rattle.totals.proofs.is_alike.Goals as goal
 
+bits : (a b : Bool) → beq a b ≡ eqb (bit a) (bit b)
+unfolding bit
+bits true true = refl
+bits true false = refl
+bits false true = refl
+bits false false = refl
+
 pub returns-then-old_len-len : goal.returns-then-old_len-len
 unfolding alike
-returns-then-old_len-len c = rw (ne_eqb _ _ c.if-old_len-len.true) refl
+returns-then-old_len-len c = search (rules, tests, bits)
 
-pub returns : goal.returns
+pub returns-else-old_len-len : goal.returns-else-old_len-len
 unfolding alike
-returns c = rw (eq-eqb _ _ c.if-old_len-len.false) (ap₂ eqb c.bit_of.ensures c.bit_of-2.ensures)
+returns-else-old_len-len c = search (rules, tests)

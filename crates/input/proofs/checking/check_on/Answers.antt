@@ -3,24 +3,21 @@ use native.Mathlib.Omega.{arith}
 use lib.ListN.{take}
 use borrow.Author.Tests.{eqb-true}
 use Rattle.rules.proofs.Basics.{true-false}
-use Rattle.input.proofs.CheckLaws.{refused_fit, checked_on}
+use Rattle.input.proofs.CheckLaws.{checked_on}
 use Rattle.input.proofs.checking.check_on.Goals as goal
-
-pub overflow_add-refused : goal.overflow_add-refused
-overflow_add-refused g c =
-    let filled = c.next_blocks-filled in
-    omega (arith, refused_fit _ (take filled.result.size filled.new.buffer) _ c.requires.checking c.tell_blocks-told.ensures, c.requires.size_bound, filled.ensures)
 
 pub returns-then-n-gt0 : goal.returns-then-n-gt0
 returns-then-n-gt0 g c =
     let filled = c.next_blocks-filled in
-    let read = c.with_chunk-received.ensures in
-    checked_on _ (take filled.result.size filled.new.buffer) _ _ c.requires.checking c.requires.size_value read.reads_more c.tell_blocks-told.ensures _ _ _ read.size_value_2
-    (omega (arith, filled.ensures)) (λ e. omega (arith, eqb-true, filled.ensures))
+    let told = c.tell_blocks.ensures in
+    let read = c.add_chunk.ensures in
+    checked_on _ _ (take filled.result.size filled.new.buffer) c.requires.checking c.requires.size_value (rw told.same_received at read.reads_more) told.refused_value _ _
+    (rw told.same_received at read.size_value_2) (omega (arith, filled.ensures)) (λ e. omega (arith, eqb-true, filled.ensures))
 
 pub returns-else-n-gt0 : goal.returns-else-n-gt0
 returns-else-n-gt0 g c =
     let filled = c.next_blocks-filled in
-    let read = c.with_chunk-received.ensures in
-    checked_on _ (take filled.result.size filled.new.buffer) _ _ c.requires.checking c.requires.size_value read.reads_more c.tell_blocks-told.ensures _ _ _ read.size_value_2
-    (omega (arith, filled.ensures)) (λ e. true-false e c.if-n-gt0.false)
+    let told = c.tell_blocks.ensures in
+    let read = c.add_chunk.ensures in
+    checked_on _ _ (take filled.result.size filled.new.buffer) c.requires.checking c.requires.size_value (rw told.same_received at read.reads_more) told.refused_value _ _
+    (rw told.same_received at read.size_value_2) (omega (arith, filled.ensures)) (λ e. true-false e c.if-n-gt0.false)

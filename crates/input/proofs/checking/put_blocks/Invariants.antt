@@ -1,11 +1,11 @@
--- `checking::put_blocks` meets its contract: it tells block by block. The measure is the length of the rest.
-use Prim.Native.Nat.{◌-◌, ◌≤◌}
-use lib.ListN.{length}
+-- `checking::put_blocks` meets its contract: it tells block by block.
+use Rattle.std.proofs.Common.{◌≡◌}
+use Rattle.std.specs.Iterator.Adapters.{enumerate_source, enumerate_count}
+use Rattle.std.specs.Slice.Iter.{chunks_exact_rest, chunks_exact_size}
 use Rattle.input.proofs.CheckLaws.{Telling}
 use Rattle.input.proofs.checking.put_blocks.Given as goal
 
-abbrev pub invariant-loop-at : goal.invariant-loop-at
-invariant-loop-at l = (l.at ≤ length l.bytes) × Telling l.initial.out l.before l.bytes l.out l.next l.refused l.at
-
-abbrev pub decreases-loop-at : goal.decreases-loop-at
-decreases-loop-at l = length l.bytes - l.at
+abbrev pub invariant-loop-i : goal.invariant-loop-i
+invariant-loop-i l =
+    (chunks_exact_size (enumerate_source l.i-iterator) ≡ 32)
+    × Telling l.initial.page l.before l.bytes l.page l.refused (enumerate_count l.i-iterator) (chunks_exact_rest (enumerate_source l.i-iterator))

@@ -5,5 +5,5 @@ use Rattle.input.proofs.checking.unchecked.Goals as goal
 
 pub returns : goal.returns
 returns c =
-    let on = c.nothing-turn.ensures in
+    let on = c.nothing.ensures in
     record { read = checking_nothing _ _ on.read on.within; even = λ _. omega (arith, on.within); within = on.within }

@@ -3,5 +3,4 @@ use Rattle.linkage.proofs.Laws.{held_made}
 use Rattle.linkage.proofs.work.hand_over.Goals as goal
 
 pub deliver-requires : goal.deliver-requires
-deliver-requires c =
-    held_made _ c.args.table c.args.rest _ c.write_output-written.result _ _ c.requires c.write_output-written.ensures c.in-Done.is c.front.ensures
+deliver-requires c = held_made _ c.args.table c.args.rest _ _ _ _ c.requires c.in-Ok.ensures c.front.ensures

@@ -1,22 +1,16 @@
-use native.Mathlib.Omega.{arith}
-use lib.ListN.{length-set}
-use Rattle.table.proofs.Copies.{copy_first, copy_next, copy_end}
+-- `rows::copy_row` meets its contract: what is copied, over what stood there.
+use Prim.Native.Nat.{ℕ, ◌≤◌}
+use mathlib.Core.Path.{◌≡◌, sym, ap₂}
+use mathlib.Core.List.{List, ◌++◌}
+use lib.ListN.{length, take, drop}
+use lib.Seq.{length-take-le}
+use Rattle.rules.specs.Outcomes.{overwritten}
 use Rattle.reading.proofs.rows.copy_row.Goals as goal
 
-pub loop-i-init : goal.loop-i-init
-loop-i-init c = (omega arith, omega arith, omega arith, copy_first _ _ _ c.requires.0 c.requires.2, copy_first _ _ _ c.requires.1 c.requires.3)
-
-pub loop-i-preserved : goal.loop-i-preserved
-loop-i-preserved c =
-    let l = c.loop-i in (
-      omega arith,
-      simp length-set l.invariant.1,
-      simp length-set l.invariant.2,
-      copy_next _ _ _ c.requires.0 c.requires.2 l.to_numbers _ c.loop-i-test.true l.invariant.3,
-      copy_next _ _ _ c.requires.1 c.requires.3 l.to_kinds _ c.loop-i-test.true l.invariant.4,
-    )
+-- the first n of some values, and behind them what stood in the buffer
+copied : (from to now' : List ℕ) (n : ℕ) → n ≤ length from → now' ≡ take n from → now' ++ drop n to ≡ overwritten (take n from) to
+unfolding overwritten
+copied from to now' n h e = ap₂ (λ (a : List ℕ) (k : ℕ). a ++ drop k to) e (sym (length-take-le n from h))
 
 pub returns : goal.returns
-returns c =
-    let l = c.loop-i in
-    (copy_end _ _ _ c.requires.0 c.requires.2 l.to_numbers _ c.loop-i-test.false l.invariant.0 l.invariant.3, copy_end _ _ _ c.requires.1 c.requires.3 l.to_kinds _ c.loop-i-test.false l.invariant.0 l.invariant.4)
+returns c = (copied _ _ _ _ c.requires.0 c.copy_from_slice.ensures.after, copied _ _ _ _ c.requires.1 c.copy_from_slice-2.ensures.after)

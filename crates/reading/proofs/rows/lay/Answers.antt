@@ -4,4 +4,4 @@ use borrow.Author.Rules.{rules}
 use Rattle.reading.proofs.rows.lay.Goals as goal
 
 pub returns : goal.returns
-returns c = row_packed _ _ _ _ _ _ (search rules) (search rules) c.least-len.ensures c.copy_row.ensures.0 c.copy_row.ensures.1
+returns c = row_packed _ _ _ _ _ _ (search rules) (search rules) c.min-len.ensures c.copy_row.ensures.0 c.copy_row.ensures.1

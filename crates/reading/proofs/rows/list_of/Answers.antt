@@ -7,4 +7,4 @@ use Rattle.reading.proofs.rows.list_of.Goals as goal
 
 pub returns : goal.returns
 unfolding row_list
-returns c = λ i. record { numbers = (c.copy_row.ensures.0 ∙ copy_zeros _ most_ids _ _ c.least.ensures c.requires.0) i; kinds = (c.copy_row.ensures.1 ∙ copy_zeros _ most_ids _ _ c.least.ensures c.requires.1) i; len = c.args.len; named = c.args.named }
+returns c = λ i. record { numbers = (c.copy_row.ensures.0 ∙ copy_zeros _ most_ids _ _ c.min.ensures c.requires.0) i; kinds = (c.copy_row.ensures.1 ∙ copy_zeros _ most_ids _ _ c.min.ensures c.requires.1) i; len = c.args.row.len; named = c.args.row.named }
