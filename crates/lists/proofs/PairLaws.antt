@@ -1,4 +1,4 @@
--- Laws of the pairs that stand in two arrays. In order: how many there are; the first, and those from a place on; which one
+-- Laws of the pairs that stand in two arrays. In order: how many there are; what they say of both; the first, and those from a place on; which one
 -- stands at a place; what a test of each finds; whether one stands twice.
 use Prim.Native.Nat.{ℕ, zero, suc, ◌+◌, ◌<◌, ◌≤◌, ◌^◌, min}
 use native.Mathlib.Nat.{le_of_suc-le-suc, not-suc-le-zero}
@@ -6,14 +6,14 @@ use native.Mathlib.Numerals.{add-one}
 use native.Mathlib.Omega.{arith}
 use mathlib.Core.Path.{◌≡◌, refl, sym, ap, ap₂, ◌∙◌}
 use mathlib.Core.Bool.{Bool, true, false, ◌&&◌, ◌||◌}
-use mathlib.Core.List.{List, [], ◌∷◌}
+use mathlib.Core.List.{List, [], ◌∷◌, map}
 use lib.ListN.{length, get_or, take, drop, length-take, drop_of_length-le}
 use lib.Dec.{eqb, ltb}
 use lib.Seq.{drop-cons, get_or-take}
 use borrow.Author.Tests.{eqb-true, eqb-false, eq-eqb, ne_eqb}
 use Rattle.std.specs.List.{zip, list_any, list_all}
 use Rattle.std.proofs.lemmas.List.{take_min}
-use Rattle.rules.specs.Field.{Pair, pair}
+use Rattle.rules.specs.Field.{Pair, pair, number_in, kind_in}
 use Rattle.rules.specs.Family.{member}
 use Rattle.rules.specs.Collecting.{linkage, same_pair, pairs_meet, kind_named, all_differ}
 use Rattle.rules.proofs.Basics.{cases_bool}
@@ -30,6 +30,21 @@ length_paired (k ∷ ks) (n ∷ ns) = omega (arith, length_paired ks ns)
 pub length_pairs_in : (ks ns : List ℕ) (len : ℕ) → length (pairs_in ks ns len) ≡ min len (min (length ks) (length ns))
 unfolding pairs_in
 length_pairs_in ks ns len = rw (length-take, length_paired)
+
+-- where there are as many kinds as numbers, the pairs say both
+pub numbers_of_paired : (ks ns : List ℕ) → length ks ≡ length ns → map number_in (paired ks ns) ≡ ns
+unfolding paired number_in pair
+numbers_of_paired [] [] e = refl
+numbers_of_paired [] (n ∷ ns) e = absurd (omega arith)
+numbers_of_paired (k ∷ ks) [] e = absurd (omega arith)
+numbers_of_paired (k ∷ ks) (n ∷ ns) e = ap (λ (r : List ℕ). n ∷ r) (numbers_of_paired ks ns (omega arith))
+
+pub kinds_of_paired : (ks ns : List ℕ) → length ks ≡ length ns → map kind_in (paired ks ns) ≡ ks
+unfolding paired kind_in pair
+kinds_of_paired [] [] e = refl
+kinds_of_paired [] (n ∷ ns) e = absurd (omega arith)
+kinds_of_paired (k ∷ ks) [] e = absurd (omega arith)
+kinds_of_paired (k ∷ ks) (n ∷ ns) e = ap (λ (r : List ℕ). k ∷ r) (kinds_of_paired ks ns (omega arith))
 
 -- ---- the first, and those from a place on
 

@@ -41,9 +41,13 @@ listed p = paired p.kinds.now p.numbers.now
 unfoldable pub pairs_in : List ℕ → List ℕ → ℕ → List Pair
 pairs_in kinds numbers len = take len (paired kinds numbers)
 
+-- every number is a certain one, by a test that says of two whether they are the same
+abbrev pub all_are : {A : Type 0} → (A → A → Bool) → A → List A → Bool
+all_are same one xs = list_all (λ x. same x one) xs
+
 -- every number is zero
 abbrev pub all_zero : List ℕ → Bool
-all_zero xs = list_all (λ x. eqb x 0) xs
+all_zero xs = all_are eqb 0 xs
 
 -- no more identifiers than there is room for, and zeros past them
 abbrev pub is_padded : IdList → Bool

@@ -4,13 +4,12 @@
 #![tactic(auto)]
 
 ghost use Rattle.std.specs.Prelude.{◌≡◌, Bool, ltb, eqb, ◌^◌, drop, length};
-ghost use Rattle.std.specs.List.{list_all};
 ghost use Rattle.rules.specs.Field.{pair, named_by};
 ghost use Rattle.rules.specs.Family.{member};
 ghost use Rattle.rules.specs.Collecting.{linkage, join_names, is_key, key_width, first_of, may_begin, kind_named, names_meet, pairs_meet, all_differ};
 ghost use Rattle.lists.specs.Kinds.{has_kind, is_dead};
 ghost use Rattle.lists.specs.Grown.{with_field};
-ghost use Rattle.lists.specs.Stored.{empty_list, listed, pairs_in, is_padded, meets_rules, Holds, Tested};
+ghost use Rattle.lists.specs.Stored.{empty_list, listed, pairs_in, all_are, is_padded, meets_rules, Holds, Tested};
 
 use field::Field;
 
@@ -163,7 +162,7 @@ impl Number for u32 {
 // Whether every number from a place on is zero: of `u8` and `u32`, all_zero of what is there. It looks at all of them, so that
 // several are taken in one step.
 pub fn all_zero<T: Number>(numbers: &[T], from: usize) -> bool
-    ensures { result ≡ list_all (λ n. T.eq n T.ZERO) (drop from numbers.now) }
+    ensures { result ≡ all_are T.eq T.ZERO (drop from numbers.now) }
 {
     let mut zero = true;
     for n in &numbers[from.min(numbers.len())..] {

@@ -4,7 +4,7 @@ use Prim.Native.Nat.{ℕ, ◌+◌, ◌≤◌, min}
 use native.Mathlib.Omega.{arith}
 use mathlib.Core.Path.{◌≡◌, refl, sym, ap, ◌∙◌}
 use mathlib.Core.List.{List, [], ◌++◌}
-use lib.ListN.{length}
+use lib.ListN.{length, length-append}
 use Rattle.std.specs.Borrow.{MutBor}
 use Rattle.out.specs.Put.{Puts}
 use Rattle.out.specs.Page.{Opens, Writes}
@@ -17,12 +17,12 @@ puts_from : (l : List ℕ) (i : ℕ) (us m : List ℕ) (j : ℕ) → Puts l i us
 puts_from l i us m j p = record { stored = p.stored ∙ sym (sets_cut us l i); after = omega (arith, p.after) }
 
 pub writes_none : (p : Page) → Writes p [] p
-writes_none p = record { held = refl; puts = record { stored = refl; after = omega arith } }
+writes_none p = record { held = refl; puts = record { stored = refl; after = omega arith }; reached = omega arith }
 
 module _ {a b : Page} {us : List ℕ} where
   -- the same text, said in another way
   pub writes_as : {vs : List ℕ} → us ≡ vs → Writes a us b → Writes a vs b
-  writes_as e w = record { held = w.held; puts = puts_as e w.puts }
+  writes_as e w = record { held = w.held; puts = puts_as e w.puts; reached = omega (arith, w.reached, ap length e) }
 
   -- one text after another
   pub writes_then : {c : Page} {vs : List ℕ} → Writes a us b → Writes b vs c → Writes a (us ++ vs) c
@@ -30,7 +30,11 @@ module _ {a b : Page} {us : List ℕ} where
       let long : length b.buffer.now ≡ length a.buffer.now = puts_length w.puts in
       let next : Puts b.buffer.now (min b.at (length a.buffer.now)) vs c.buffer.now (min c.at (length a.buffer.now)) =
       rw (← long) (puts_from b.buffer.now b.at vs c.buffer.now (min c.at (length b.buffer.now)) v.puts) in
-      record { held = v.held ∙ w.held; puts = puts_then w.puts next }
+      record {
+        held = v.held ∙ w.held;
+        puts = puts_then w.puts next;
+        reached = omega (arith, w.reached, v.reached, long, length-append us vs);
+      }
 
 -- ---- a text a part at a time: whoever writes what is left on the page that is reached has written the whole
 

@@ -1,10 +1,10 @@
 -- A contract admits a single answer. In order: an equation; a run of stores; a given table (`given_single`), by it reading a
 -- block, a recording, forgetting, copying out with both buffers, the totals; an output with its buffer (`write_single`), by it the
 -- listing with numbers and without, the columns, the totals as a line, the sheet and the blocks for air; loading a sheet; a test.
-use Prim.Native.Nat.{ℕ, min}
+use Prim.Native.Nat.{ℕ}
 use mathlib.Core.Path.{◌≡◌, refl, sym, ap, ◌∙◌}
 use mathlib.Core.Bool.{Bool, true, false}
-use mathlib.Core.List.{List}
+use mathlib.Core.List.{List, map}
 use Rattle.rules.specs.declared.Outcome.{Outcome}
 use Rattle.rules.specs.declared.Outcome.TheVariants.{Done, NotHeld, WrongTable, NotShown}
 use Rattle.rules.specs.Collecting.{Content}
@@ -36,10 +36,14 @@ use Rattle.reading.specs.Runs.{run_as, recorded_as}
 use Rattle.std.specs.Prelude.{Result, Ok, Err}
 use Rattle.out.specs.declared.Unwritten.{Unwritten}
 use lib.ListN.{length}
+use Rattle.std.specs.Borrow.{MutBor}
+use Rattle.rules.specs.Field.{Pair, number_in, kind_in}
+use Rattle.lists.specs.declared.Pairs.{Pairs}
+use Rattle.lists.specs.Stored.{listed}
+use Rattle.lists.proofs.PairLaws.{numbers_of_paired, kinds_of_paired}
 use Rattle.out.specs.Put.{Puts}
-use Rattle.out.specs.Page.{Writes}
+use Rattle.out.specs.Page.{Opens, Writes}
 use Rattle.out.specs.declared.Page.{Page}
-use Rattle.out.proofs.Runs.{puts_length}
 use Rattle.out.specs.Answer.{outcome_of, written_as, Outputs}
 use Rattle.sheet.specs.declared.Loaded.{Loaded}
 use Rattle.sheet.specs.Loading.{Loads}
@@ -57,12 +61,24 @@ pub puts_single : {old text new other : List ℕ} {at next past : ℕ} → Puts 
     → (new ≡ other) × (next ≡ past)
 puts_single a b = (equal_single a.stored b.stored, equal_single a.after b.after)
 
--- a text written on a page: what its buffer holds then, and how many bytes were stored
+-- a text written on a page: what its buffer holds then, and the place after the text
 pub writes_single : {old new other : Page} {text : List ℕ} → Writes old text new → Writes old text other
-    → (new.buffer.now ≡ other.buffer.now) × (min new.at (length new.buffer.now) ≡ min other.at (length other.buffer.now))
-writes_single {old} {new} {other} a b =
-    let e = puts_single a.puts b.puts in
-    (e.0, ap (min new.at) (puts_length a.puts) ∙ e.1 ∙ sym (ap (min other.at) (puts_length b.puts)))
+    → (new.buffer.now ≡ other.buffer.now) × (new.at ≡ other.at)
+writes_single a b = (equal_single a.puts.stored b.puts.stored, equal_single a.reached b.reached)
+
+-- an empty page over a buffer: what it holds, and the place 0
+pub opens_single : {buffer : MutBor (List ℕ)} {page other : Page} → Opens buffer page → Opens buffer other
+    → (page.buffer.now ≡ other.buffer.now) × (page.at ≡ other.at)
+opens_single a b = (equal_single a.same b.same, equal_single a.first b.first)
+
+-- identifiers, as many kinds as numbers: what they list says both
+pub pairs_single : (p q : Pairs) (ps : List Pair) → listed p ≡ ps → length p.kinds.now ≡ length p.numbers.now
+    → listed q ≡ ps → length q.kinds.now ≡ length q.numbers.now → (p.numbers.now ≡ q.numbers.now) × (p.kinds.now ≡ q.kinds.now)
+pairs_single p q ps a alike b alike' =
+    let same : listed p ≡ listed q = equal_single a b in (
+      sym (numbers_of_paired p.kinds.now p.numbers.now alike) ∙ ap (map number_in) same ∙ numbers_of_paired q.kinds.now q.numbers.now alike',
+      sym (kinds_of_paired p.kinds.now p.numbers.now alike) ∙ ap (map kind_in) same ∙ kinds_of_paired q.kinds.now q.numbers.now alike',
+    )
 
 -- where an answer is what the content gives, or else one certain thing, two answers are the same
 pub given_single : {A : Type 0} (t : Table) (x y z : A) (F : Content → A) → Given t (λ c. x ≡ F c) (x ≡ z) → Given t (λ c. y ≡ F c) (y ≡ z) → x ≡ y

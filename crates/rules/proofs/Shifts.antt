@@ -1,11 +1,11 @@
--- An array with one value more or one less, as it is stored.
+-- An array with one value more or one less: as it is stored, and value by value.
 use Prim.Native.Nat.{ℕ, zero, suc, ◌+◌, ◌-◌, ◌<◌, ◌≤◌}
-use native.Mathlib.Nat.{le_of_suc-le-suc, not-suc-le-zero}
+use native.Mathlib.Nat.{le_of_suc-le-suc, not-suc-le-zero, add-zero}
 use native.Mathlib.Omega.{arith}
 use mathlib.Core.Path.{◌≡◌, refl, sym, ap, ap₂, ◌∙◌}
 use mathlib.Core.List.{List, [], ◌∷◌, ◌++◌, append_assoc}
-use lib.ListN.{length, take, drop, replicate, length-drop, length-append, length-replicate, replicate-append-replicate}
-use lib.Seq.{take-append-le, drop-append-le, take-append-add, length-take-le}
+use lib.ListN.{length, get_or, take, drop, replicate, length-take, length-drop, length-append, length-replicate, get_or-append, replicate-append-replicate}
+use lib.Seq.{take-append-le, drop-append-le, take-append-add, take_all, take-take, get_or-append-add, get_or-take, get_or-drop, length-take-le}
 use Rattle.rules.specs.Arrays.{padded, opened, shut}
 
 module _ {A : Type 0} where
@@ -51,3 +51,65 @@ module _ {A : Type 0} where
       ∙ sym
       (ap₂ (λ (a b : List A). a ++ b ++ d ∷ []) (take-append-le i ys (replicate (n - length ys) d) (omega arith)) (drop-append-le (suc i) ys (replicate (n - length ys) d) h)
       ∙ append_assoc (take i ys) (drop (suc i) ys ++ replicate (n - length ys) d) (d ∷ []))
+
+  -- ---- the values of an array with one value more
+
+  pub length_opened : (at : ℕ) (v : A) (xs : List A) → at ≤ length xs → length (opened at v xs) ≡ length xs
+  unfolding opened
+  length_opened at v xs h =
+      length-take (length xs) (take at xs ++ v ∷ drop at xs)
+      ∙ rw (length-append (take at xs) (v ∷ drop at xs), length-take-le at xs h, length-drop at xs) (omega arith)
+
+  opened_value : (at : ℕ) (v : A) (xs : List A) (j : ℕ) (d : A) → j < length xs → get_or (opened at v xs) j d ≡ get_or (take at xs ++ v ∷ drop at xs) j d
+  unfolding opened
+  opened_value at v xs j d h = get_or-take (length xs) (take at xs ++ v ∷ drop at xs) j d h
+
+  pub opened_here : (at : ℕ) (v : A) (xs : List A) (d : A) → at < length xs → get_or (opened at v xs) at d ≡ v
+  opened_here at v xs d h =
+      opened_value at v xs at d h
+      ∙ ap (λ (k : ℕ). get_or (take at xs ++ v ∷ drop at xs) k d) (sym (length-take-le at xs (omega arith)) ∙ sym (add-zero (length (take at xs))))
+      ∙ get_or-append-add (take at xs) (v ∷ drop at xs) 0 d
+
+  pub opened_after : (at : ℕ) (v : A) (xs : List A) (j : ℕ) (d : A) → at < j → j < length xs → get_or (opened at v xs) j d ≡ get_or xs (j - 1) d
+  opened_after at v xs j d a h =
+      let m : length (take at xs) + suc (j - 1 - at) ≡ j = ap (λ (k : ℕ). k + suc (j - 1 - at)) (length-take-le at xs (omega arith)) ∙ omega arith in
+      let n : at + (j - 1 - at) ≡ j - 1 = omega arith in
+      opened_value at v xs j d h
+      ∙ ap (λ (k : ℕ). get_or (take at xs ++ v ∷ drop at xs) k d) (sym m)
+      ∙ get_or-append-add (take at xs) (v ∷ drop at xs) (suc (j - 1 - at)) d
+      ∙ get_or-drop at xs (j - 1 - at) d
+      ∙ ap (λ (k : ℕ). get_or xs k d) n
+
+  -- before the place nothing changes
+  pub opened_before : (at : ℕ) (v : A) (xs : List A) → at ≤ length xs → take at (opened at v xs) ≡ take at xs
+  unfolding opened
+  opened_before at v xs h =
+      take-take at (length xs) (take at xs ++ v ∷ drop at xs) h
+      ∙ take-append-le at (take at xs) (v ∷ drop at xs) (rw (length-take-le at xs h) (omega arith))
+      ∙ take_all at (take at xs) (rw (length-take-le at xs h) (omega arith))
+
+  -- ---- the values of an array with one value less
+
+  pub length_shut : (at : ℕ) (d : A) (xs : List A) → at < length xs → length (shut at d xs) ≡ length xs
+  unfolding shut
+  length_shut at d xs h =
+      rw (length-append (take at xs ++ drop (suc at) xs) (d ∷ []), length-append (take at xs) (drop (suc at) xs), length-take-le at xs (omega arith), length-drop (suc at) xs)
+      (omega arith)
+
+  pub shut_value : (at : ℕ) (d : A) (xs : List A) (j : ℕ) (e : A) → at ≤ j → j + 1 < length xs → get_or (shut at d xs) j e ≡ get_or xs (j + 1) e
+  unfolding shut
+  shut_value at d xs j e a h =
+      let m : length (take at xs) + (j - at) ≡ j = ap (λ (k : ℕ). k + (j - at)) (length-take-le at xs (omega arith)) ∙ omega arith in
+      let n : suc at + (j - at) ≡ j + 1 = omega arith in
+      get_or-append (take at xs ++ drop (suc at) xs) (d ∷ []) e j (rw (front_length at xs (omega arith)) (omega arith))
+      ∙ ap (λ (k : ℕ). get_or (take at xs ++ drop (suc at) xs) k e) (sym m)
+      ∙ get_or-append-add (take at xs) (drop (suc at) xs) (j - at) e
+      ∙ get_or-drop (suc at) xs (j - at) e
+      ∙ ap (λ (k : ℕ). get_or xs k e) n
+
+  pub shut_last : (at : ℕ) (d : A) (xs : List A) (j : ℕ) (e : A) → at ≤ j → j + 1 ≡ length xs → get_or (shut at d xs) j e ≡ d
+  unfolding shut
+  shut_last at d xs j e a h =
+      let m : length (take at xs ++ drop (suc at) xs) + 0 ≡ j = ap (λ (k : ℕ). k + 0) (front_length at xs (omega arith)) ∙ omega arith in
+      ap (λ (k : ℕ). get_or (take at xs ++ drop (suc at) xs ++ d ∷ []) k e) (sym m)
+      ∙ get_or-append-add (take at xs ++ drop (suc at) xs) (d ∷ []) 0 e
