@@ -18,7 +18,8 @@ use Rattle.rules.proofs.Arrays.{length_padded, drop_padded, same_padded}
 use Rattle.rules.proofs.TableRules.{SetRules, set_rules, some_there, not_empty_law}
 use Rattle.lists.specs.declared.IdList.{IdList}
 use Rattle.lists.specs.Stored.{store_list, empty_list, store_maybe, paired, pairs_in, all_zero, is_padded, meets_rules, Holds, Tested}
-use Rattle.lists.proofs.PairLaws.{length_pairs_in}
+use Rattle.lists.proofs.PairLaws.{length_pairs_in, numbers_of_paired, kinds_of_paired}
+use Rattle.std.proofs.lemmas.List.{take-map}
 
 -- ---- zeros
 
@@ -50,19 +51,12 @@ unfolding pairs_in store_list padded
 pairs_in_store l = ap (take (length l.items)) (paired_map l.items _ _) ∙ take-append_seam l.items _
 
 pub kinds_of_pairs : (ks ns : List ℕ) (len : ℕ) → length ks ≡ length ns → map kind_in (pairs_in ks ns len) ≡ take len ks
-unfolding pairs_in paired kind_in pair
-kinds_of_pairs ks ns zero e = refl
-kinds_of_pairs [] ns (suc len) e = refl
-kinds_of_pairs (k ∷ ks) [] (suc len) e = absurd (omega arith)
-kinds_of_pairs (k ∷ ks) (n ∷ ns) (suc len) e = ap (λ (r : List ℕ). k ∷ r) (kinds_of_pairs ks ns len (omega arith))
+unfolding pairs_in
+kinds_of_pairs ks ns len e = sym (take-map kind_in len (paired ks ns)) ∙ ap (take len) (kinds_of_paired ks ns e)
 
 pub numbers_of_pairs : (ks ns : List ℕ) (len : ℕ) → length ks ≡ length ns → map number_in (pairs_in ks ns len) ≡ take len ns
-unfolding pairs_in paired number_in pair
-numbers_of_pairs ks ns zero e = refl
-numbers_of_pairs [] [] (suc len) e = refl
-numbers_of_pairs [] (n ∷ ns) (suc len) e = absurd (omega arith)
-numbers_of_pairs (k ∷ ks) [] (suc len) e = absurd (omega arith)
-numbers_of_pairs (k ∷ ks) (n ∷ ns) (suc len) e = ap (λ (r : List ℕ). n ∷ r) (numbers_of_pairs ks ns len (omega arith))
+unfolding pairs_in
+numbers_of_pairs ks ns len e = sym (take-map number_in len (paired ks ns)) ∙ ap (take len) (numbers_of_paired ks ns e)
 
 -- an array of zeros
 all_zeros : (xs : List ℕ) → length xs ≡ most_ids → all_zero xs ≡ true → xs ≡ replicate most_ids 0

@@ -12,6 +12,7 @@ pub record Opens (buffer : MutBor (List ℕ)) (page : Page) : Type 0 where
 
 -- a text is stored on a page as a writer stores it into the buffer that the page holds, and goes on holding; the place that is reached is
 -- the one after the text, at most the buffer's length: it goes on by as many bytes as there was room for, and stays where there was none
+-- (`puts` is by what the laws of writers go, and says the place where there was room; `reached` says it wherever the page was)
 pub record Writes (old : Page) (text : List ℕ) (new : Page) : Type 0 where
   pub held : new.buffer.ghost_name ≡ old.buffer.ghost_name
   pub puts : Puts old.buffer.now old.at text new.buffer.now (min new.at (length old.buffer.now))
